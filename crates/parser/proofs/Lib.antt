@@ -1,0 +1,4 @@
+pub mod Prefix
+pub mod Fixed
+pub mod Completion
+pub mod Calls

@@ -1,0 +1,4 @@
+pub mod Parser
+pub mod Call
+pub mod LongerBytes
+pub mod Fixed
