@@ -1,0 +1,96 @@
+//! The fields of a request line. Whatever is malformed is `None`.
+
+/// The most elements of text that are lent.
+const MOST_TEXT: u64 = 64;
+
+/// The fields that are still to be read.
+pub struct Fields<'a> {
+    rest: Option<&'a [u8]>,
+}
+
+impl<'a> Fields<'a> {
+    pub fn new(line: &'a [u8]) -> Self {
+        Self { rest: Some(line) }
+    }
+
+    /// The next field as it stands, up to a space or the line's end.
+    pub fn field(&mut self) -> Option<&'a [u8]> {
+        let rest = self.rest?;
+        let (field, after) = match rest.iter().position(|&b| b == b' ') {
+            Some(space) => (&rest[..space], Some(&rest[space + 1..])),
+            None => (rest, None),
+        };
+        self.rest = after;
+        Some(field)
+    }
+
+    /// That no field is left.
+    pub fn end(&self) -> Option<()> {
+        match self.rest {
+            Some(_) => None,
+            None => Some(()),
+        }
+    }
+
+    /// A decimal number of at most 20 digits, not above `most`.
+    pub fn number(&mut self, most: u64) -> Option<u64> {
+        let digits = self.field()?;
+        if digits.is_empty() || digits.len() > 20 {
+            return None;
+        }
+        let mut number: u64 = 0;
+        for &digit in digits {
+            if !digit.is_ascii_digit() {
+                return None;
+            }
+            number = number
+                .checked_mul(10)?
+                .checked_add(u64::from(digit - b'0'))?;
+        }
+        (number <= most).then_some(number)
+    }
+
+    pub fn u8(&mut self) -> Option<u8> {
+        self.number(u64::from(u8::MAX)).map(|n| n as u8)
+    }
+
+    pub fn u32(&mut self) -> Option<u32> {
+        self.number(u64::from(u32::MAX)).map(|n| n as u32)
+    }
+
+    pub fn u64(&mut self) -> Option<u64> {
+        self.number(u64::MAX)
+    }
+
+    pub fn flag(&mut self) -> Option<bool> {
+        self.number(1).map(|n| n == 1)
+    }
+
+    /// How many bytes of text are lent.
+    pub fn lent_text(&mut self) -> Option<usize> {
+        self.number(MOST_TEXT).map(|n| n as usize)
+    }
+
+    /// Bytes as pairs of lower-case hexadecimal digits, or `-` for none.
+    pub fn bytes(&mut self) -> Option<Vec<u8>> {
+        let digits = self.field()?;
+        if digits == b"-" {
+            return Some(Vec::new());
+        }
+        if digits.is_empty() || digits.len() % 2 != 0 {
+            return None;
+        }
+        digits
+            .chunks_exact(2)
+            .map(|pair| Some(digit(pair[0])? << 4 | digit(pair[1])?))
+            .collect()
+    }
+}
+
+fn digit(b: u8) -> Option<u8> {
+    match b {
+        b'0'..=b'9' => Some(b - b'0'),
+        b'a'..=b'f' => Some(b - b'a' + 10),
+        _ => None,
+    }
+}
