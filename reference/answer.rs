@@ -13,20 +13,34 @@ pub enum Part {
     Data = 4,
 }
 
-/// The answers of all requests so far.
+/// A slice of bytes as it is lent.
+pub fn lent8(length: usize) -> Vec<u8> {
+    (0..length).map(|i| 0xa5u8.wrapping_add(i as u8)).collect()
+}
+
+/// A slice of 64-bit elements as it is lent.
+pub fn lent64(length: usize) -> Vec<u64> {
+    (0..length as u64)
+        .map(|i| 0xa5a5_a5a5_0000_0000 + i)
+        .collect()
+}
+
+/// The answers that were not written yet.
 pub struct Answers {
     text: Vec<u8>,
 }
 
 impl Answers {
-    pub fn with_capacity(bytes: usize) -> Self {
-        Self {
-            text: Vec::with_capacity(bytes),
-        }
+    pub fn new() -> Self {
+        Self { text: Vec::new() }
     }
 
     pub fn text(&self) -> &[u8] {
         &self.text
+    }
+
+    pub fn clear(&mut self) {
+        self.text.clear();
     }
 
     pub fn put(&mut self, text: &str) -> &mut Self {
@@ -78,6 +92,14 @@ impl Answers {
         }
     }
 
+    /// A field for a code that may be none.
+    pub fn number_or_dash<N: Display>(&mut self, number: Option<N>) -> &mut Self {
+        match number {
+            Some(number) => self.number(number),
+            None => self.put(" -"),
+        }
+    }
+
     /// A refusal by its number and what it carries.
     pub fn refused(&mut self, error: &Error, part: Part) -> &mut Self {
         self.put("refused").number(error.number());
@@ -86,6 +108,11 @@ impl Answers {
             Error::InvalidPrecursorMz { offset, mz } => self.number(offset).bits64(mz.to_bits()),
             _ => self,
         }
+    }
+
+    /// Refusal 8, which the original does not know: a lent slice is shorter than its count.
+    pub fn too_short(&mut self) -> &mut Self {
+        self.put("refused 8")
     }
 
     /// A lent slice of bytes after the call.
@@ -97,13 +124,22 @@ impl Answers {
         self
     }
 
+    /// A lent slice of 64-bit elements after the call.
+    pub fn slice64(&mut self, slice: &[u64]) -> &mut Self {
+        self.put(" |");
+        for element in slice {
+            self.bits64(*element);
+        }
+        self
+    }
+
     /// A name written into a lent slice of bytes, or refusal 8 if the slice is too short for it.
     pub fn name(&mut self, name: Option<&str>, lent: usize) -> &mut Self {
-        let mut slice: Vec<u8> = (0..lent).map(|i| 0xa5u8.wrapping_add(i as u8)).collect();
+        let mut slice = lent8(lent);
         match name {
             None => self.none(),
             Some(name) => match slice.get_mut(..name.len()) {
-                None => self.put("refused 8"),
+                None => self.too_short(),
                 Some(start) => {
                     start.copy_from_slice(name.as_bytes());
                     self.ok().number(name.len())

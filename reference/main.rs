@@ -39,29 +39,37 @@ mod seq_row {
     pub struct SeqRow;
 }
 
-use answer::{Answers, Part};
+use answer::{lent64, lent8, Answers, Part};
 use reader::BinaryReader;
 use request::Fields;
-use scan_event::ScanEventPreamble;
+use scan_event::{ScanEvent, ScanEventPreamble};
 use scan_format::ScanDataFormat;
 use scan_index::ScanIndexEntry;
-use std::io::{Cursor, Read, Write};
+use std::io::{BufRead, Cursor, Write};
 
 /// The longest request, without its line feed.
 const LONGEST_LINE: usize = 65536;
 
+/// How many bytes of answers are gathered before they are written.
+const FULL: usize = 1 << 20;
+
 fn main() -> std::io::Result<()> {
-    let mut requests = Vec::new();
-    std::io::stdin().lock().read_to_end(&mut requests)?;
-    let mut answers = Answers::with_capacity(requests.len());
-    for line in requests.split_inclusive(|&b| b == b'\n') {
-        let line = line.strip_suffix(b"\n").unwrap_or(line);
-        if answer(line, &mut answers).is_none() {
+    let mut requests = std::io::stdin().lock();
+    let mut output = std::io::stdout().lock();
+    let mut answers = Answers::new();
+    let mut line = Vec::new();
+    while requests.read_until(b'\n', &mut line)? > 0 {
+        if answer(line.strip_suffix(b"\n").unwrap_or(&line), &mut answers).is_none() {
             answers.put("?");
         }
         answers.put("\n");
+        if answers.text().len() >= FULL {
+            output.write_all(answers.text())?;
+            answers.clear();
+        }
+        line.clear();
     }
-    std::io::stdout().lock().write_all(answers.text())
+    output.write_all(answers.text())
 }
 
 /// `None` if the line is no request. Each function takes all its fields before it answers.
@@ -85,6 +93,9 @@ fn answer(line: &[u8], out: &mut Answers) -> Option<()> {
         b"preamble_size" => preamble_size,
         b"entry_size" => entry_size,
         b"entry" => entry,
+        b"preamble" => preamble,
+        b"event" => event,
+        b"counted" => counted,
         _ => return None,
     };
     request(&mut fields, out)
@@ -281,6 +292,141 @@ fn preamble_size(fields: &mut Fields, out: &mut Answers) -> Option<()> {
     out.ok()
         .number(ScanEventPreamble::size_for_version(version));
     Some(())
+}
+
+fn preamble(fields: &mut Fields, out: &mut Answers) -> Option<()> {
+    let bytes = fields.bytes()?;
+    fields.end()?;
+    put_settings(out.ok(), &ScanEventPreamble { bytes });
+    Some(())
+}
+
+/// The eleven fields of a preamble.
+fn put_settings<'a>(out: &'a mut Answers, preamble: &ScanEventPreamble) -> &'a mut Answers {
+    out.number_or_dash(preamble.polarity().map(|v| v as u32))
+        .number_or_dash(preamble.scan_mode().map(|v| v as u32))
+        .number_or_dash(preamble.ms_power().map(|v| v as u32))
+        .number_or_dash(preamble.scan_type().map(|v| v as u32))
+        .flag(preamble.is_dependent())
+        .flag(preamble.is_dia())
+        .number_or_dash(preamble.ionization().map(|v| v as u32));
+    put_activation(out, preamble.activation())
+        .number(preamble.activation_byte())
+        .flag(preamble.is_wideband())
+        .number_or_dash(preamble.analyzer().map(|v| v as u32))
+}
+
+/// An activation as one field.
+fn put_activation(out: &mut Answers, activation: Option<Activation>) -> &mut Answers {
+    match activation {
+        None => out.number(0),
+        Some(Activation::HCD) => out.number(1),
+        Some(Activation::CID) => out.number(2),
+        Some(Activation::ETD) => out.number(3),
+        Some(Activation::EThcD) => out.number(4),
+        Some(Activation::Unknown(byte)) => out.number(format_args!("5:{byte}")),
+    }
+}
+
+/// The slices lent for an event. Those of floats hold their bits.
+struct EventSlices {
+    preamble: Vec<u8>,
+    precursors: Vec<u64>,
+    energies: Vec<u64>,
+    coefficients: Vec<u64>,
+}
+
+impl EventSlices {
+    /// The fields P, Q, R and C.
+    fn lent(fields: &mut Fields) -> Option<Self> {
+        Some(Self {
+            preamble: lent8(fields.lent_preamble()?),
+            precursors: lent64(fields.lent_floats()?),
+            energies: lent64(fields.lent_floats()?),
+            coefficients: lent64(fields.lent_floats()?),
+        })
+    }
+
+    fn hold(&self, event: &ScanEvent) -> bool {
+        self.preamble.len() >= event.preamble().bytes().len()
+            && self.precursors.len() >= event.reactions().len()
+            && self.energies.len() >= event.reactions().len()
+            && self.coefficients.len() >= event.coefficients().len()
+    }
+
+    /// Fills slices that hold the event.
+    fn fill(&mut self, event: &ScanEvent) {
+        let bytes = event.preamble().bytes();
+        self.preamble[..bytes.len()].copy_from_slice(bytes);
+        for (at, reaction) in event.reactions().iter().enumerate() {
+            self.precursors[at] = reaction.precursor_mz().to_bits();
+            self.energies[at] = reaction.energy().to_bits();
+        }
+        for (at, coefficient) in event.coefficients().iter().enumerate() {
+            self.coefficients[at] = coefficient.to_bits();
+        }
+    }
+}
+
+fn event(fields: &mut Fields, out: &mut Answers) -> Option<()> {
+    let version = fields.u32()?;
+    let primary = fields.u32()? as usize;
+    let dependent = fields.u32()? as usize;
+    event_by(fields, out, |reader| {
+        ScanEvent::read(reader, version, primary, dependent)
+    })
+}
+
+fn counted(fields: &mut Fields, out: &mut Answers) -> Option<()> {
+    let size = fields.u32()? as usize;
+    event_by(fields, out, |reader| {
+        ScanEvent::read_counted_v66(reader, size)
+    })
+}
+
+/// The fields from PLACE on, and the answer by either function.
+fn event_by<F>(fields: &mut Fields, out: &mut Answers, read: F) -> Option<()>
+where
+    F: FnOnce(&mut BinaryReader<Cursor<&[u8]>>) -> error::Result<ScanEvent>,
+{
+    let place = fields.u64()?;
+    let mut slices = EventSlices::lent(fields)?;
+    let bytes = fields.bytes()?;
+    fields.end()?;
+    let mut reader = reader_at(&bytes, place);
+    match read(&mut reader) {
+        Err(error) => out.refused(&error, Part::Event),
+        Ok(event) if !slices.hold(&event) => out.too_short(),
+        Ok(event) => {
+            slices.fill(&event);
+            put_event(out.ok(), &event).number(reader.position())
+        }
+    }
+    .slice8(&slices.preamble)
+    .slice64(&slices.precursors)
+    .slice64(&slices.energies)
+    .slice64(&slices.coefficients);
+    Some(())
+}
+
+/// The fields of an event up to its activation.
+fn put_event<'a>(out: &'a mut Answers, event: &ScanEvent) -> &'a mut Answers {
+    out.number(event.preamble().bytes().len())
+        .number(event.reactions().len())
+        .number(event.coefficients().len());
+    // The Rust reads one window or none.
+    match event.fraction_collectors() {
+        [] => out.flag(false).bits64(0).bits64(0).bits64(0).bits64(0),
+        [window] => out
+            .flag(true)
+            .made64(window.low_mz())
+            .made64(window.high_mz())
+            .bits64(window.low_mz().to_bits())
+            .bits64(window.high_mz().to_bits()),
+        windows => panic!("{} windows", windows.len()),
+    };
+    put_settings(out, event.preamble());
+    put_activation(out, event.activation())
 }
 
 // scan_index.rs

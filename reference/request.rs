@@ -3,6 +3,12 @@
 /// The most elements of text that are lent.
 const MOST_TEXT: u64 = 64;
 
+/// The most bytes of a preamble that are lent.
+const MOST_PREAMBLE: u64 = 256;
+
+/// The most floats that are lent.
+const MOST_FLOATS: u64 = 64;
+
 /// The fields that are still to be read.
 pub struct Fields<'a> {
     rest: Option<&'a [u8]>,
@@ -69,6 +75,16 @@ impl<'a> Fields<'a> {
     /// How many bytes of text are lent.
     pub fn lent_text(&mut self) -> Option<usize> {
         self.number(MOST_TEXT).map(|n| n as usize)
+    }
+
+    /// How many bytes of a preamble are lent.
+    pub fn lent_preamble(&mut self) -> Option<usize> {
+        self.number(MOST_PREAMBLE).map(|n| n as usize)
+    }
+
+    /// How many floats are lent.
+    pub fn lent_floats(&mut self) -> Option<usize> {
+        self.number(MOST_FLOATS).map(|n| n as usize)
     }
 
     /// Bytes as pairs of lower-case hexadecimal digits, or `-` for none.

@@ -13,7 +13,7 @@ use borrow.Author.Tests.{leb-true, leb-false, le-leb}
 use Rattle.parser.specs.Parser.{Parser, done, read, ahead, seek, short, bytes, left, parse, _>>=_, repeat, le, word}
 use Rattle.parser.specs.LongerBytes.{Bytes}
 use Rattle.parser.specs.Fixed.{Sized}
-use Rattle.parser.proofs.Prefix.{leb-cases}
+use Rattle.lists.proofs.Cases.{leb-cases}
 use Rattle.parser.proofs.Fixed.{sized-zero, sized-word, read-fits, read-rest, ahead-fits, ahead-rest}
 
 abbrev pub zeros : ℕ → List ℕ

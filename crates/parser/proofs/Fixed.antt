@@ -11,8 +11,11 @@ use lib.ListN.{length, getD}
 use lib.Dec.{T, leb, eqb, when, eqb→eq}
 use borrow.Author.Tests.{leb-true, leb-false, le-leb}
 use Rattle.parser.specs.Parser.{Parser, done, read, ahead, seek, Parsed, short, parsed, bytes, left, within, parse, _>>=_, raw, word, repeat}
+use Rattle.lists.specs.Written.{each}
+use Rattle.lists.proofs.Laws.{each-none, each-cons, each-same}
 use Rattle.parser.specs.Fixed.{Sized, value}
-use Rattle.parser.proofs.Prefix.{leb-cases, parse-bind, after-within}
+use Rattle.lists.proofs.Cases.{leb-cases}
+use Rattle.parser.proofs.Prefix.{parse-bind, after-within}
 
 -- what a parser of n bytes gives at `at`: its value, if its bytes are left there
 abbrev pub whole : {A : Type 0} → ℕ → Parser A → List ℕ → ℕ → Parsed A
@@ -162,3 +165,14 @@ module _ {A : Type 0} (size : ℕ) (p : Parser A) (z : Sized size p) where
       let l : i < n = omega arith in
       let q : off + size + i * size ≡ off + suc i * size = omega (arith, suc-mul i size) in
       rw (value-repeat n s at off, getD-repeat n i d s at (off + size) l, q)
+
+  pub value-each : (n : ℕ) (s : List ℕ) (at off : ℕ) → value (repeat n p) s at off ≡ each (λ i. value p s at (off + i * size)) n
+  unfolding repeat
+  value-each zero s at off = each-none (λ i. value p s at (off + i * size))
+  value-each (suc n) s at off =
+      let here : value p s at off ≡ value p s at (off + 0 * size) = rw (zero-mul, add-zero) in
+      let step : (i : ℕ) → value p s at (off + size + i * size) ≡ value p s at (off + suc i * size) =
+      λ i. ap (value p s at) (omega (arith, suc-mul i size)) in
+      value-repeat n s at off
+      ∙ rw (value-each n s at (off + size), each-same _ (λ i. value p s at (off + suc i * size)) n step, here)
+      (sym (each-cons (λ i. value p s at (off + i * size)) n))

@@ -1,24 +1,16 @@
 -- Laws that hold of every parser: the prefix property, and a sequence is parsed part by part.
 -- Assumes nothing.
 use mathlib.Core.Path.{_≡_, refl, _∙_}
-use mathlib.Core.Logic.{_⊎_, inl, inr, ⊎-elim}
+use mathlib.Core.Logic.{_⊎_, ⊎-elim}
 use Prim.Native.Nat.{ℕ, zero, suc, _+_, _≤_}
 use native.Mathlib.Omega.{arith}
 use mathlib.Core.Bool.{Bool, true, false}
 use mathlib.Core.List.{List, _++_}
 use lib.ListN.{length, drop, length-append, length-drop}
 use lib.Seq.{take-append-le, drop-append-le}
-use lib.Dec.{leb}
 use borrow.Author.Tests.{leb-true, le-leb}
+use Rattle.lists.proofs.Cases.{leb-cases}
 use Rattle.parser.specs.Parser.{Parser, done, read, ahead, seek, Parsed, short, parsed, bytes, left, within, parse, _>>=_}
-
--- a test holds or fails
-pub leb-cases : (m n : ℕ) → (leb m n ≡ true) ⊎ (leb m n ≡ false)
-leb-cases m n = go (leb m n) refl
-  where
-    go : (b : Bool) → leb m n ≡ b → (leb m n ≡ true) ⊎ (leb m n ≡ false)
-    go true e = inl e
-    go false e = inr e
 
 -- bytes that lie within s are the same in all that begins with s
 pub bytes-append : (s t : List ℕ) (at n : ℕ) → n ≤ left s at → bytes (s ++ t) at n ≡ bytes s at n

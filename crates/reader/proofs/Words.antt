@@ -7,12 +7,12 @@ use native.Mathlib.Nat.{mul-assoc, pow-succ', mul-zero}
 use native.Mathlib.Omega.{arith}
 use mathlib.Core.List.{List, [], _∷_, _++_}
 use lib.ListN.{length, getD, take, drop, length-take, length-drop, drop-of-length-le}
-use lib.Seq.{take-add, drop-drop}
+use lib.Seq.{take-add, take-nil, drop-drop}
 use lib.Dec.{leb}
 use mathlib.Core.Bool.{true, false}
 use borrow.Author.Tests.{leb-true, leb-false}
 use Rattle.parser.specs.Parser.{bytes, le, left}
-use Rattle.parser.proofs.Prefix.{leb-cases}
+use Rattle.lists.proofs.Cases.{leb-cases}
 
 le-append : (a b : List ℕ) → le (a ++ b) ≡ le a + 256 ^ length a * le b
 le-append [] b = omega arith
@@ -21,15 +21,11 @@ le-append (x ∷ a) b =
     let p : 256 ^ suc (length a) * le b ≡ 256 * (256 ^ length a * le b) = rw (pow-succ', mul-assoc) in
     omega arith
 
-take-none : (n : ℕ) → take {A = ℕ} n [] ≡ []
-take-none zero = refl
-take-none (suc n) = refl
-
 -- behind the end there is nothing
 pub le-none : (s : List ℕ) (at n : ℕ) → left s at ≡ 0 → le (bytes s at n) ≡ 0
 le-none s at n h =
     let past : length s ≤ at = omega arith in
-    rw (drop-of-length-le s past, take-none n)
+    rw (drop-of-length-le s past, take-nil n)
 
 -- the lower m bytes, and those behind them
 pub le-split : (s : List ℕ) (at m n : ℕ) → le (bytes s at (m + n)) ≡ le (bytes s at m) + 256 ^ m * le (bytes s (at + m) n)

@@ -1,7 +1,9 @@
 // Little-endian numbers at a place of a run (bytes.rs and `BinaryReader`). Places are 64-bit numbers, and every read has
 // an answer: a byte behind the end counts as 0. Whoever must not read past the end tests `remaining` first.
 ghost use mathlib.Core.Path.{_≡_};
-ghost use Prim.Native.Nat.{_+_, _-_, _^_, _≤_, min};
+ghost use Prim.Native.Nat.{_+_, _*_, _-_, _^_, _≤_, min};
+ghost use lib.ListN.{length};
+ghost use Rattle.lists.specs.Written.{each, fitting};
 ghost use Rattle.parser.specs.Parser.{bytes, le, left};
 
 // How many bytes are left at a place.
@@ -21,6 +23,13 @@ pub fn saturating_add(a: u64, b: u64) -> u64
     } else {
         0xffff_ffff_ffff_ffff
     }
+}
+
+// A difference of sizes stops at 0.
+pub fn saturating_sub(a: u64, b: u64) -> u64
+    ensures { λ r. ⌜ r ≡ a - b ⌝ }
+{
+    if b <= a { a - b } else { 0 }
 }
 
 // The numbers of two, four and eight bytes that are there.
@@ -84,4 +93,36 @@ pub fn u64_at(run: &[u8], at: u64) -> u64
         return u64_within(run, at);
     }
     (u32_at(run, at) as u64) + 0x1_0000_0000 * (u32_at(run, saturating_add(at, 4)) as u64)
+}
+
+fn smaller(a: u64, b: u64) -> u64
+    ensures { λ r. ⌜ r ≡ min a b ⌝ }
+{
+    if a <= b { a } else { b }
+}
+
+// Bytes of the run, and numbers that stand at equal distances, over the front of a lent slice, as far as it goes.
+pub fn copy_bytes(run: &[u8], at: u64, n: u64, out: &mut [u8])
+    ensures { λ _. ⌜ now (out .exit) ≡ fitting (bytes (now (run .entry)) at n) (now (out .entry)) ⌝ }
+{
+    let room = smaller(smaller(n, remaining(run, at)), out.len() as u64) as usize;
+    let mut i: usize = 0;
+    while i < room {
+        let place = at as usize + i;
+        out[i] = run[place];
+        i = i + 1;
+    }
+}
+
+pub fn copy_u64s(run: &[u8], at: u64, stride: u64, n: u64, out: &mut [u64])
+    ensures { λ _. ⌜ now (out .exit) ≡ fitting (each (λ i. le (bytes (now (run .entry)) (at + i * stride) 8)) n) (now (out .entry)) ⌝ }
+{
+    let room = smaller(n, out.len() as u64) as usize;
+    let mut place = at;
+    let mut i: usize = 0;
+    while i < room {
+        out[i] = u64_at(run, place);
+        place = saturating_add(place, stride);
+        i = i + 1;
+    }
 }

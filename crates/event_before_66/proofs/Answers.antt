@@ -1,0 +1,91 @@
+-- What reading an event below version 66 answers, by the tests that decide it.
+-- Assumes nothing.
+use mathlib.Core.Path.{_≡_, _∙_}
+use Prim.Native.Nat.{ℕ, _+_, _*_, _≤_, _<_}
+use mathlib.Core.List.{List}
+use lib.Dec.{leb}
+use borrow.Author.Tests.{le-leb, lt-leb}
+use Rattle.refusal.specs.Outcome.{ranOut}
+use Rattle.lists.specs.Written.{each}
+use Rattle.parser.specs.Parser.{Parser, done, parsed, within, parse, bytes, le, left, _>>=_}
+use Rattle.parser.specs.Call.{outcome}
+use Rattle.parser.proofs.Fixed.{parse-stage}
+use Rattle.preamble.specs.Size.{sizeForVersion}
+use Rattle.scan_event.specs.Event.{Event, handOut}
+use Rattle.scan_event.specs.declared.Lent.{Lent}
+use Rattle.event_before_66.specs.Layout.{head, Middle, middle, tail, event, before66, readBefore66}
+use Rattle.event_before_66.specs.Places.{reactionsAt, coefficientsAt, end, eventAt}
+use Rattle.event_before_66.specs.declared.Sizes.{Sizes}
+use Rattle.event_before_66.proofs.Stages.{head-sized, middle-sized, tail-sized, head-value, middle-value, tail-value}
+
+-- what follows the middle, and what follows the head
+unfoldable pub more : List ℕ → Middle → Parser Event
+more preamble m = tail (m .count) >>= λ coefficients. done (event preamble m coefficients)
+
+unfoldable pub rest : List ℕ × ℕ → Parser Event
+rest h = middle (h .1) >>= more (h .0)
+
+-- the reactions' part by its places
+middleAt : List ℕ → ℕ → ℕ → Middle
+middleAt s n at =
+    record {
+      reactions = each (λ i. (le (bytes s (at + i * 32) 8), le (bytes s (at + 16 + i * 32) 8))) n;
+      low = le (bytes s (at + n * 32 + 4) 8);
+      high = le (bytes s (at + n * 32 + 4 + 8) 8);
+      count = le (bytes s (at + n * 32 + 20) 4);
+    }
+
+module _ (s : List ℕ) where
+  parse-head : (version at : ℕ) → let size = sizeForVersion version in
+      parse (before66 version) s at
+      ≡ within (leb (size + 4) (left s at)) (parse (rest (bytes s at size, le (bytes s (at + size) 4))) s (at + (size + 4)))
+  unfolding before66 rest more
+  parse-head version at = parse-stage (sizeForVersion version + 4) (head version) rest (head-sized version) s at ∙ rw (head-value s version at)
+
+  parse-middle : (preamble : List ℕ) (n at : ℕ)
+      → parse (rest (preamble, n)) s at ≡ within (leb (n * 32 + 24) (left s at)) (parse (more preamble (middleAt s n at)) s (at + (n * 32 + 24)))
+  unfolding rest middleAt
+  parse-middle preamble n at = parse-stage (n * 32 + 24) (middle n) (more preamble) (middle-sized n) s at ∙ rw (middle-value s n at)
+
+  parse-tail : (preamble : List ℕ) (m : Middle) (at : ℕ) → let n = m .count in
+      parse (more preamble m) s at
+      ≡ within (leb (n * 8 + 8) (left s at)) (parsed (event preamble m (each (λ i. le (bytes s (at + i * 8) 8)) n)) (at + (n * 8 + 8)))
+  unfolding more parse
+  parse-tail preamble m at =
+      parse-stage (m .count * 8 + 8) (tail (m .count)) (λ coefficients. done (event preamble m coefficients)) (tail-sized (m .count)) s at
+      ∙ rw (tail-value s (m .count) at)
+
+-- the answer, by how far the bytes reach
+module _ (version : ℕ) (lent : Lent) (s : List ℕ) (at : ℕ) where
+  pub short-head : left s at < sizeForVersion version + 4 → ranOut 3 ≡ readBefore66 version lent at s
+  unfolding readBefore66 outcome
+  short-head t = rw (parse-head s version at, lt-leb _ _ t)
+
+  module _ (z : Sizes) (size : z .preamble ≡ sizeForVersion version) (t : z .preamble + 4 ≤ left s at) (reactions : z .reactions ≡ le (bytes s (at + z .preamble) 4)) where
+    to-middle : parse (before66 version) s at ≡ parse (rest (bytes s at (z .preamble), z .reactions)) s (reactionsAt at z)
+    to-middle = parse-head s version at ∙ rw (← size, le-leb _ _ t, ← reactions)
+
+    pub short-middle : left s (reactionsAt at z) < z .reactions * 32 + 24 → ranOut 3 ≡ readBefore66 version lent at s
+    unfolding readBefore66 outcome
+    short-middle u = rw (to-middle, parse-middle s (bytes s at (z .preamble)) (z .reactions) (reactionsAt at z), lt-leb _ _ u)
+
+    module _ (u : z .reactions * 32 + 24 ≤ left s (reactionsAt at z)) (coefficients : z .coefficients ≡ le (bytes s (reactionsAt at z + z .reactions * 32 + 20) 4)) where
+      to-tail : parse (before66 version) s at
+          ≡ parse (more (bytes s at (z .preamble)) (middleAt s (z .reactions) (reactionsAt at z))) s (coefficientsAt at z)
+      to-tail = to-middle ∙ rw (parse-middle s (bytes s at (z .preamble)) (z .reactions) (reactionsAt at z), le-leb _ _ u)
+
+      counted : z .coefficients ≡ middleAt s (z .reactions) (reactionsAt at z) .count
+      unfolding middleAt
+      counted = coefficients
+
+      pub short-tail : left s (coefficientsAt at z) < z .coefficients * 8 + 8 → ranOut 3 ≡ readBefore66 version lent at s
+      unfolding readBefore66 outcome
+      short-tail v =
+          let m = middleAt s (z .reactions) (reactionsAt at z) in
+          rw (to-tail, parse-tail s (bytes s at (z .preamble)) m (coefficientsAt at z), ← counted, lt-leb _ _ v)
+
+      pub whole : z .coefficients * 8 + 8 ≤ left s (coefficientsAt at z) → handOut lent (eventAt at z s) (end at z) ≡ readBefore66 version lent at s
+      unfolding readBefore66 outcome eventAt middleAt
+      whole v =
+          let m = middleAt s (z .reactions) (reactionsAt at z) in
+          rw (to-tail, parse-tail s (bytes s at (z .preamble)) m (coefficientsAt at z), ← counted, le-leb _ _ v)

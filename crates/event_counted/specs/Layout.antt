@@ -1,0 +1,74 @@
+-- A scan event of version 66 whose body starts with its reaction count (`read_counted_v66` of scan_event.rs).
+use Prim.Native.Nat.{ℕ, zero, suc, _+_, _*_}
+use mathlib.Core.Bool.{cond}
+use mathlib.Core.List.{List, [], _∷_}
+use lib.Dec.{leb}
+use Rattle.refusal.specs.Outcome.{Outcome, ok, refused}
+use Rattle.lists.specs.Written.{each}
+use Rattle.parser.specs.Parser.{Parser, done, _>>=_, raw, bytes, le, left}
+use Rattle.parser.specs.Call.{outcome, single}
+use Rattle.preamble.specs.Settings.{isPrimary}
+use Rattle.window.specs.Window.{windowAt}
+use Rattle.coefficient.specs.Coefficients.{coefficients}
+use Rattle.reaction.specs.Reactions.{bitsAt, acceptable}
+use Rattle.event_from_66.specs.Layout.{endBits}
+use Rattle.scan_event.specs.Event.{Event, Decoded, handOut}
+use Rattle.scan_event.specs.declared.Lent.{Lent}
+
+-- where record i of 56 bytes stands in the body: its precursor at 0, its energy at 16
+abbrev pub recordAt : ℕ → ℕ
+recordAt i = 4 + i * 56
+
+-- what is wrong with record i of a body that starts at `start` of the run: 4 at the precursor, 3, 4 at the energy
+abbrev pub judgeRecord : ℕ → List ℕ → ℕ → Outcome (Unit {0})
+judgeRecord start body i =
+    cond (leb 8 (left body (recordAt i)))
+    (cond (acceptable (bitsAt body (recordAt i)))
+    (cond (leb 8 (left body (recordAt i + 16))) (ok tt) (refused 4 []))
+    (refused 3 ((start + recordAt i) ∷ bitsAt body (recordAt i) ∷ [])))
+    (refused 4 [])
+
+-- a refusal stands before what follows
+infixl 20 _andThen_
+abbrev pub _andThen_ : {A : Type 0} → Outcome (Unit {0}) → Outcome A → Outcome A
+_andThen_ (ok t) next = next
+_andThen_ (refused number carries) next = refused number carries
+
+-- the first n records
+unfoldable pub judgeRecords : ℕ → List ℕ → ℕ → Outcome (Unit {0})
+judgeRecords start body zero = ok tt
+judgeRecords start body (suc n) = judgeRecords start body n andThen judgeRecord start body n
+
+-- a primary event's records are neither judged nor kept
+abbrev pub kept : List ℕ → ℕ → ℕ
+kept preamble count = cond (isPrimary preamble) 0 count
+
+unfoldable pub countedEvent : List ℕ → List ℕ → ℕ → Event
+countedEvent preamble body count =
+    let place = count * 56 + 8 in
+    record {
+      preamble = preamble;
+      reactions = each (λ i. (bitsAt body (recordAt i), bitsAt body (recordAt i + 16))) (kept preamble count);
+      window = windowAt body place;
+      low = endBits (windowAt body place) body place;
+      high = endBits (windowAt body place) body (place + 8);
+      coefficients = coefficients body (place + 16);
+    }
+
+-- the body that starts at `start` and ends at `next`
+unfoldable pub bodyOutcome : Lent → ℕ → List ℕ → List ℕ → ℕ → Outcome Decoded
+bodyOutcome lent start preamble body next =
+    let count = le (bytes body 0 4) in
+    cond (leb 4 (left body 0))
+    (judgeRecords start body (kept preamble count) andThen handOut lent (countedEvent preamble body count) next)
+    (refused 4 [])
+
+unfoldable pub counted : ℕ → Parser (List ℕ × List ℕ)
+counted size = do
+  preamble ← raw 136
+  body ← raw size
+  done (preamble, body)
+
+-- what `read_counted_v66` answers
+unfoldable pub readCounted : ℕ → Lent → ℕ → List ℕ → Outcome Decoded
+readCounted size lent at run = outcome (single 3 at (counted size) (λ parts next. bodyOutcome lent (at + 136) (parts .0) (parts .1) next)) run

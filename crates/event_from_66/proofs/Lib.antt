@@ -1,0 +1,4 @@
+pub mod Answers
+pub mod Bounds
+pub mod Body
+pub mod LongerBytes

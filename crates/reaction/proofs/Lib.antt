@@ -1,0 +1,4 @@
+pub mod Constants
+pub mod Count
+pub mod Kept
+pub mod Sources
