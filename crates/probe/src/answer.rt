@@ -1,0 +1,134 @@
+// The text of answers. It is collected in `out`, which holds `n` bytes of it: a function that adds to it answers how
+// many it holds then.
+use libc::STDOUT_FILENO;
+use refusal::Refusal;
+use text::TextAnswer;
+
+// Writes out what is held. There is nobody to tell if that fails.
+pub fn flush(out: &[u8], n: usize) {
+    if n <= out.len() {
+        io::write_all(STDOUT_FILENO, &out[0..n]);
+    }
+}
+
+// One more byte. Where there is no room for it, what is held is written out first.
+pub fn put_byte(out: &mut [u8], n: usize, b: u8) -> usize {
+    if n < out.len() {
+        out[n] = b;
+        return n + 1;
+    }
+    flush(out, n);
+    if 0 < out.len() {
+        out[0] = b;
+        return 1;
+    }
+    0
+}
+
+pub fn put(out: &mut [u8], n: usize, text: &[u8]) -> usize {
+    let mut n = n;
+    let mut i: usize = 0;
+    while i < text.len() {
+        n = put_byte(out, n, text[i]);
+        i = i + 1;
+    }
+    n
+}
+
+// What is no request.
+pub fn bad(out: &mut [u8], n: usize) -> usize {
+    put(out, n, b"?")
+}
+
+pub fn ok(out: &mut [u8], n: usize) -> usize {
+    put(out, n, b"ok")
+}
+
+pub fn none(out: &mut [u8], n: usize) -> usize {
+    put(out, n, b"none")
+}
+
+pub fn decimal(out: &mut [u8], n: usize, value: u64) -> usize {
+    let mut text = [0u8; 20];
+    let k = io::decimal(value, &mut text);
+    put(out, n, &text[..k])
+}
+
+// A field of an answer: a number, a flag or the bits of a float.
+pub fn number(out: &mut [u8], n: usize, value: u64) -> usize {
+    let n = put_byte(out, n, b' ');
+    decimal(out, n, value)
+}
+
+pub fn flag(out: &mut [u8], n: usize, value: bool) -> usize {
+    number(out, n, value as u64)
+}
+
+fn wide(x: u8) -> u64 {
+    x as u64
+}
+
+fn hex(out: &mut [u8], n: usize, value: u64, width: usize) -> usize {
+    let n = put_byte(out, n, b' ');
+    let mut text = [0u8; 16];
+    let k = io::hex(value, width, &mut text);
+    put(out, n, &text[..k])
+}
+
+pub fn bits32(out: &mut [u8], n: usize, bits: u32) -> usize {
+    hex(out, n, bits as u64, 8)
+}
+
+pub fn bits64(out: &mut [u8], n: usize, bits: u64) -> usize {
+    hex(out, n, bits, 16)
+}
+
+pub fn ok_number(out: &mut [u8], n: usize, value: u64) -> usize {
+    let n = ok(out, n);
+    number(out, n, value)
+}
+
+// A refusal by its number and what it carries.
+pub fn refused(out: &mut [u8], n: usize, refusal: Refusal) -> usize {
+    let n = put(out, n, b"refused");
+    let n = number(out, n, refusal.number());
+    match refusal {
+        Refusal::Short(part) => number(out, n, part.number()),
+        Refusal::InvalidPrecursorMz { place, bits } => {
+            let n = number(out, n, place);
+            bits64(out, n, bits)
+        }
+        _ => n,
+    }
+}
+
+// A lent slice of bytes after the call.
+fn slice8(out: &mut [u8], n: usize, lent: &[u8]) -> usize {
+    let mut n = put(out, n, b" |");
+    let mut i: usize = 0;
+    while i < lent.len() {
+        n = hex(out, n, wide(lent[i]), 2);
+        i = i + 1;
+    }
+    n
+}
+
+// How much of a name was written; the empty name stands for the Rust's `None`.
+fn written(out: &mut [u8], n: usize, name: TextAnswer) -> usize {
+    match name {
+        TextAnswer::Written(count) => {
+            if count == 0 {
+                none(out, n)
+            } else {
+                ok_number(out, n, count)
+            }
+        }
+        TextAnswer::Refused(refusal) => refused(out, n, refusal),
+    }
+}
+
+// What a name's function answered, and the slice that it was lent.
+pub fn name(out: &mut [u8], n: usize, name: TextAnswer, lent: &[u8]) -> usize {
+    let n = written(out, n, name);
+    slice8(out, n, lent)
+}

@@ -1,0 +1,83 @@
+// The request words, in a chain of a few functions: one with all the tests would take long to prove.
+use crate::answer;
+use crate::events;
+use crate::names;
+use crate::scans;
+use crate::values;
+
+pub fn answer_request(line: &[u8], data: &mut [u8], out: &mut [u8], n: usize) -> usize {
+    let at = bytes::scan::find(line, 0, line.len(), b' ');
+    let word = &line[0..at];
+    if check::same(word, b"word") {
+        return values::word(line, at, data, out, n);
+    }
+    if check::same(word, b"f64") {
+        return values::float64(line, at, out, n);
+    }
+    if check::same(word, b"f32") {
+        return values::float32(line, at, out, n);
+    }
+    of_scans(word, line, at, data, out, n)
+}
+
+fn of_scans(
+    word: &[u8],
+    line: &[u8],
+    at: usize,
+    data: &mut [u8],
+    out: &mut [u8],
+    n: usize,
+) -> usize {
+    if check::same(word, b"entry") {
+        return scans::entry(line, at, data, out, n);
+    }
+    if check::same(word, b"entry_size") {
+        return scans::entry_size(line, at, out, n);
+    }
+    if check::same(word, b"format") {
+        return scans::format(line, at, out, n);
+    }
+    if check::same(word, b"display_name") {
+        return scans::display_name(line, at, out, n);
+    }
+    of_events(word, line, at, data, out, n)
+}
+
+fn of_events(
+    word: &[u8],
+    line: &[u8],
+    at: usize,
+    data: &mut [u8],
+    out: &mut [u8],
+    n: usize,
+) -> usize {
+    if check::same(word, b"preamble") {
+        return events::preamble(line, at, data, out, n);
+    }
+    if check::same(word, b"preamble_size") {
+        return events::preamble_size(line, at, out, n);
+    }
+    of_names(word, line, at, out, n)
+}
+
+fn of_names(word: &[u8], line: &[u8], at: usize, out: &mut [u8], n: usize) -> usize {
+    if check::same(word, b"code") {
+        return names::code(line, at, out, n);
+    }
+    if check::same(word, b"name") {
+        return names::name(line, at, out, n);
+    }
+    if check::same(word, b"symbol") {
+        return names::symbol(line, at, out, n);
+    }
+    if check::same(word, b"activation") {
+        return names::activation(line, at, out, n);
+    }
+    if check::same(word, b"activation_name") {
+        return names::activation_name(line, at, out, n);
+    }
+    if check::same(word, b"fixed_size") {
+        return names::fixed_size(line, at, out, n);
+    }
+    answer::bad(out, n)
+}
