@@ -5,14 +5,14 @@ use refusal::Refusal;
 use text::TextAnswer;
 
 // Writes out what is held. There is nobody to tell if that fails.
-pub fn flush(out: &[u8], n: usize) {
+pub(crate) fn flush(out: &[u8], n: usize) {
     if n <= out.len() {
         io::write_all(STDOUT_FILENO, &out[0..n]);
     }
 }
 
 // One more byte. Where there is no room for it, what is held is written out first.
-pub fn put_byte(out: &mut [u8], n: usize, b: u8) -> usize {
+pub(crate) fn put_byte(out: &mut [u8], n: usize, b: u8) -> usize {
     if n < out.len() {
         out[n] = b;
         return n + 1;
@@ -25,7 +25,7 @@ pub fn put_byte(out: &mut [u8], n: usize, b: u8) -> usize {
     0
 }
 
-pub fn put(out: &mut [u8], n: usize, text: &[u8]) -> usize {
+pub(crate) fn put(out: &mut [u8], n: usize, text: &[u8]) -> usize {
     let mut n = n;
     let mut i: usize = 0;
     while i < text.len() {
@@ -36,31 +36,31 @@ pub fn put(out: &mut [u8], n: usize, text: &[u8]) -> usize {
 }
 
 // What is no request.
-pub fn bad(out: &mut [u8], n: usize) -> usize {
+pub(crate) fn bad(out: &mut [u8], n: usize) -> usize {
     put(out, n, b"?")
 }
 
-pub fn ok(out: &mut [u8], n: usize) -> usize {
+pub(crate) fn ok(out: &mut [u8], n: usize) -> usize {
     put(out, n, b"ok")
 }
 
-pub fn none(out: &mut [u8], n: usize) -> usize {
+pub(crate) fn none(out: &mut [u8], n: usize) -> usize {
     put(out, n, b"none")
 }
 
-pub fn decimal(out: &mut [u8], n: usize, value: u64) -> usize {
+pub(crate) fn decimal(out: &mut [u8], n: usize, value: u64) -> usize {
     let mut text = [0u8; 20];
     let k = io::decimal(value, &mut text);
     put(out, n, &text[..k])
 }
 
 // A field of an answer: a number, a flag or the bits of a float.
-pub fn number(out: &mut [u8], n: usize, value: u64) -> usize {
+pub(crate) fn number(out: &mut [u8], n: usize, value: u64) -> usize {
     let n = put_byte(out, n, b' ');
     decimal(out, n, value)
 }
 
-pub fn flag(out: &mut [u8], n: usize, value: bool) -> usize {
+pub(crate) fn flag(out: &mut [u8], n: usize, value: bool) -> usize {
     number(out, n, value as u64)
 }
 
@@ -75,21 +75,21 @@ fn hex(out: &mut [u8], n: usize, value: u64, width: usize) -> usize {
     put(out, n, &text[..k])
 }
 
-pub fn bits32(out: &mut [u8], n: usize, bits: u32) -> usize {
+pub(crate) fn bits32(out: &mut [u8], n: usize, bits: u32) -> usize {
     hex(out, n, bits as u64, 8)
 }
 
-pub fn bits64(out: &mut [u8], n: usize, bits: u64) -> usize {
+pub(crate) fn bits64(out: &mut [u8], n: usize, bits: u64) -> usize {
     hex(out, n, bits, 16)
 }
 
-pub fn ok_number(out: &mut [u8], n: usize, value: u64) -> usize {
+pub(crate) fn ok_number(out: &mut [u8], n: usize, value: u64) -> usize {
     let n = ok(out, n);
     number(out, n, value)
 }
 
 // A refusal by its number and what it carries.
-pub fn refused(out: &mut [u8], n: usize, refusal: Refusal) -> usize {
+pub(crate) fn refused(out: &mut [u8], n: usize, refusal: Refusal) -> usize {
     let n = put(out, n, b"refused");
     let n = number(out, n, refusal.number());
     match refusal {
@@ -103,11 +103,22 @@ pub fn refused(out: &mut [u8], n: usize, refusal: Refusal) -> usize {
 }
 
 // A lent slice of bytes after the call.
-fn slice8(out: &mut [u8], n: usize, lent: &[u8]) -> usize {
+pub(crate) fn slice8(out: &mut [u8], n: usize, lent: &[u8]) -> usize {
     let mut n = put(out, n, b" |");
     let mut i: usize = 0;
     while i < lent.len() {
         n = hex(out, n, wide(lent[i]), 2);
+        i = i + 1;
+    }
+    n
+}
+
+// A lent slice of 64-bit elements after the call.
+pub(crate) fn slice64(out: &mut [u8], n: usize, lent: &[u64]) -> usize {
+    let mut n = put(out, n, b" |");
+    let mut i: usize = 0;
+    while i < lent.len() {
+        n = bits64(out, n, lent[i]);
         i = i + 1;
     }
     n
@@ -128,7 +139,7 @@ fn written(out: &mut [u8], n: usize, name: TextAnswer) -> usize {
 }
 
 // What a name's function answered, and the slice that it was lent.
-pub fn name(out: &mut [u8], n: usize, name: TextAnswer, lent: &[u8]) -> usize {
+pub(crate) fn name(out: &mut [u8], n: usize, name: TextAnswer, lent: &[u8]) -> usize {
     let n = written(out, n, name);
     slice8(out, n, lent)
 }

@@ -1,9 +1,10 @@
 // Answers the requests of docs/REQUESTS.md, which it reads from standard input, by the decoder's public functions.
 // The program in reference/ prints the same.
 mod answer;
-mod events;
 mod names;
+mod preambles;
 mod request;
+mod scan_events;
 mod scans;
 mod serve;
 mod values;

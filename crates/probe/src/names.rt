@@ -1,7 +1,7 @@
 // Codes, their names and symbols: the crate `codes`.
 use crate::answer;
 use crate::request;
-use crate::request::TEXT;
+use crate::request::LENT;
 use crate::request::U8;
 use crate::request::U32;
 use codes::Activation;
@@ -43,7 +43,7 @@ fn family_and_value(line: &[u8], at: usize) -> Coded {
     }
 }
 
-pub fn code(line: &[u8], at: usize, out: &mut [u8], n: usize) -> usize {
+pub(crate) fn code(line: &[u8], at: usize, out: &mut [u8], n: usize) -> usize {
     let coded = family_and_value(line, at);
     if coded.end != line.len() {
         return answer::bad(out, n);
@@ -54,7 +54,7 @@ pub fn code(line: &[u8], at: usize, out: &mut [u8], n: usize) -> usize {
     }
 }
 
-pub fn symbol(line: &[u8], at: usize, out: &mut [u8], n: usize) -> usize {
+pub(crate) fn symbol(line: &[u8], at: usize, out: &mut [u8], n: usize) -> usize {
     let coded = family_and_value(line, at);
     if coded.end != line.len() {
         return answer::bad(out, n);
@@ -71,14 +71,14 @@ fn put_name(family: Family, value: u32, lent: &mut [u8], out: &mut [u8], n: usiz
     answer::name(out, n, written, lent)
 }
 
-pub fn name(line: &[u8], at: usize, out: &mut [u8], n: usize) -> usize {
+pub(crate) fn name(line: &[u8], at: usize, out: &mut [u8], n: usize) -> usize {
     let coded = family_and_value(line, at);
-    let lent = request::number(line, coded.end, TEXT);
+    let lent = request::number(line, coded.end, LENT);
     if lent.end != line.len() {
         return answer::bad(out, n);
     }
     let mut text = [0u8; 64];
-    let count = request::text_length(lent.value);
+    let count = request::lent_length(lent.value);
     put_name(
         family_of(coded.family),
         coded.value,
@@ -88,7 +88,7 @@ pub fn name(line: &[u8], at: usize, out: &mut [u8], n: usize) -> usize {
     )
 }
 
-pub fn activation(line: &[u8], at: usize, out: &mut [u8], n: usize) -> usize {
+pub(crate) fn activation(line: &[u8], at: usize, out: &mut [u8], n: usize) -> usize {
     let byte = request::number(line, at, U8);
     if byte.end != line.len() {
         return answer::bad(out, n);
@@ -124,18 +124,18 @@ fn put_activation_name(activation: Activation, lent: &mut [u8], out: &mut [u8], 
     answer::name(out, n, written, lent)
 }
 
-pub fn activation_name(line: &[u8], at: usize, out: &mut [u8], n: usize) -> usize {
+pub(crate) fn activation_name(line: &[u8], at: usize, out: &mut [u8], n: usize) -> usize {
     let activation = request::number(line, at, 5);
-    let lent = request::number(line, activation.end, TEXT);
+    let lent = request::number(line, activation.end, LENT);
     if lent.end != line.len() {
         return answer::bad(out, n);
     }
     let mut text = [0u8; 64];
-    let count = request::text_length(lent.value);
+    let count = request::lent_length(lent.value);
     put_activation_name(activation_of(activation.value), &mut text[0..count], out, n)
 }
 
-pub fn fixed_size(line: &[u8], at: usize, out: &mut [u8], n: usize) -> usize {
+pub(crate) fn fixed_size(line: &[u8], at: usize, out: &mut [u8], n: usize) -> usize {
     let value = request::number(line, at, U32);
     if value.end != line.len() {
         return answer::bad(out, n);

@@ -9,8 +9,11 @@ pub const U8: u64 = 0xff;
 pub const U32: u64 = 0xffff_ffff;
 
 pub const U64: u64 = 0xffff_ffff_ffff_ffff;
-// The most bytes of text that are lent.
-pub const TEXT: u64 = 64;
+
+// The most elements of a slice that are lent, and of a preamble.
+pub const LENT: u64 = 64;
+
+pub const PREAMBLE: u64 = 256;
 
 const NOWHERE: usize = 0xffff_ffff_ffff_ffff;
 
@@ -109,7 +112,7 @@ fn unhex(digits: &[u8], data: &mut [u8]) -> Value {
 }
 
 // The field that follows at `at` as a number, not above `most`.
-pub fn number(line: &[u8], at: usize, most: u64) -> Field {
+pub(crate) fn number(line: &[u8], at: usize, most: u64) -> Field {
     if line.len() <= at {
         return nowhere();
     }
@@ -125,7 +128,7 @@ pub fn number(line: &[u8], at: usize, most: u64) -> Field {
 }
 
 // The field that follows at `at` as bytes, which go to the front of `data`; `-` stands for none.
-pub fn bytes(line: &[u8], at: usize, data: &mut [u8]) -> Field {
+pub(crate) fn bytes(line: &[u8], at: usize, data: &mut [u8]) -> Field {
     if line.len() <= at {
         return nowhere();
     }
@@ -142,7 +145,7 @@ pub fn bytes(line: &[u8], at: usize, data: &mut [u8]) -> Field {
 }
 
 // The bytes that `bytes` put there.
-pub fn front(data: &[u8], count: u64) -> &[u8] {
+pub(crate) fn front(data: &[u8], count: u64) -> &[u8] {
     let count = count as usize;
     if count <= data.len() {
         &data[0..count]
@@ -152,22 +155,38 @@ pub fn front(data: &[u8], count: u64) -> &[u8] {
 }
 
 // A number that was read with `most` U32.
-pub fn narrow(value: u64) -> u32 {
+pub(crate) fn narrow(value: u64) -> u32 {
     (value % 0x1_0000_0000) as u32
 }
 
-// A lent length that was read with `most` TEXT.
-pub fn text_length(value: u64) -> usize
+// A lent length that was read with `most` LENT.
+pub(crate) fn lent_length(value: u64) -> usize
     ensures { λ r. ⌜ r ≤ 64 ⌝ }
 {
     (value % 65) as usize
 }
 
+// One that was read with `most` PREAMBLE.
+pub(crate) fn preamble_length(value: u64) -> usize
+    ensures { λ r. ⌜ r ≤ 256 ⌝ }
+{
+    (value % 257) as usize
+}
+
 // What a lent slice of bytes holds before the call.
-pub fn fill(lent: &mut [u8]) {
+pub(crate) fn fill(lent: &mut [u8]) {
     let mut i: usize = 0;
     while i < lent.len() {
         lent[i] = ((0xa5 + i % 256) % 256) as u8;
+        i = i + 1;
+    }
+}
+
+// What a lent slice of 64-bit elements holds before the call.
+pub(crate) fn fill64(lent: &mut [u64]) {
+    let mut i: usize = 0;
+    while i < lent.len() {
+        lent[i] = 0xa5a5_a5a5_0000_0000 + (i as u64) % 0x1_0000_0000;
         i = i + 1;
     }
 }

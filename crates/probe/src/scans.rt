@@ -1,7 +1,7 @@
 // Scan formats and the scan index: the crates `scan_format` and `scan_index`.
 use crate::answer;
 use crate::request;
-use crate::request::TEXT;
+use crate::request::LENT;
 use crate::request::U32;
 use crate::request::U64;
 use scan_format::ScanDataFormat;
@@ -24,7 +24,7 @@ fn format_of(number: u64) -> ScanDataFormat {
     }
 }
 
-pub fn format(line: &[u8], at: usize, out: &mut [u8], n: usize) -> usize {
+pub(crate) fn format(line: &[u8], at: usize, out: &mut [u8], n: usize) -> usize {
     let version = request::number(line, at, U32);
     let flat = request::number(line, version.end, 1);
     if flat.end != line.len() {
@@ -41,18 +41,18 @@ fn put_display_name(format: ScanDataFormat, lent: &mut [u8], out: &mut [u8], n: 
     answer::name(out, n, written, lent)
 }
 
-pub fn display_name(line: &[u8], at: usize, out: &mut [u8], n: usize) -> usize {
+pub(crate) fn display_name(line: &[u8], at: usize, out: &mut [u8], n: usize) -> usize {
     let format = request::number(line, at, 2);
-    let lent = request::number(line, format.end, TEXT);
+    let lent = request::number(line, format.end, LENT);
     if lent.end != line.len() {
         return answer::bad(out, n);
     }
     let mut text = [0u8; 64];
-    let count = request::text_length(lent.value);
+    let count = request::lent_length(lent.value);
     put_display_name(format_of(format.value), &mut text[0..count], out, n)
 }
 
-pub fn entry_size(line: &[u8], at: usize, out: &mut [u8], n: usize) -> usize {
+pub(crate) fn entry_size(line: &[u8], at: usize, out: &mut [u8], n: usize) -> usize {
     let version = request::number(line, at, U32);
     if version.end != line.len() {
         return answer::bad(out, n);
@@ -79,7 +79,7 @@ fn put_entry(out: &mut [u8], n: usize, e: ScanIndexEntry) -> usize {
     answer::number(out, n, e.offset)
 }
 
-pub fn entry(line: &[u8], at: usize, data: &mut [u8], out: &mut [u8], n: usize) -> usize {
+pub(crate) fn entry(line: &[u8], at: usize, data: &mut [u8], out: &mut [u8], n: usize) -> usize {
     let version = request::number(line, at, U32);
     let place = request::number(line, version.end, U64);
     let count = request::bytes(line, place.end, data);

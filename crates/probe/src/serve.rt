@@ -68,7 +68,7 @@ fn finish(rest: &[u8], data: &mut [u8], out: &mut [u8], n: usize) {
     answer::flush(out, n);
 }
 
-pub fn serve(input: &mut [u8], data: &mut [u8], out: &mut [u8]) {
+pub(crate) fn serve(input: &mut [u8], data: &mut [u8], out: &mut [u8]) {
     let mut held: usize = 0;
     let mut n: usize = 0;
     let mut round: u64 = 0;

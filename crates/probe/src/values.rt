@@ -21,7 +21,7 @@ fn is_size(size: u64) -> bool {
     }
 }
 
-pub fn word(line: &[u8], at: usize, data: &mut [u8], out: &mut [u8], n: usize) -> usize {
+pub(crate) fn word(line: &[u8], at: usize, data: &mut [u8], out: &mut [u8], n: usize) -> usize {
     let size = request::number(line, at, 8);
     let place = request::number(line, size.end, U64);
     let count = request::bytes(line, place.end, data);
@@ -55,7 +55,7 @@ fn bits_again32(bits: u32) -> u32 {
     }
 }
 
-pub fn float64(line: &[u8], at: usize, out: &mut [u8], n: usize) -> usize {
+pub(crate) fn float64(line: &[u8], at: usize, out: &mut [u8], n: usize) -> usize {
     let field = request::number(line, at, U64);
     if field.end != line.len() {
         return answer::bad(out, n);
@@ -67,7 +67,7 @@ pub fn float64(line: &[u8], at: usize, out: &mut [u8], n: usize) -> usize {
     answer::bits64(out, n, bits_again64(bits))
 }
 
-pub fn float32(line: &[u8], at: usize, out: &mut [u8], n: usize) -> usize {
+pub(crate) fn float32(line: &[u8], at: usize, out: &mut [u8], n: usize) -> usize {
     let field = request::number(line, at, U32);
     if field.end != line.len() {
         return answer::bad(out, n);

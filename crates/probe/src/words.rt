@@ -1,11 +1,12 @@
 // The request words, in a chain of a few functions: one with all the tests would take long to prove.
 use crate::answer;
-use crate::events;
 use crate::names;
+use crate::preambles;
+use crate::scan_events;
 use crate::scans;
 use crate::values;
 
-pub fn answer_request(line: &[u8], data: &mut [u8], out: &mut [u8], n: usize) -> usize {
+pub(crate) fn answer_request(line: &[u8], data: &mut [u8], out: &mut [u8], n: usize) -> usize {
     let at = bytes::scan::find(line, 0, line.len(), b' ');
     let word = &line[0..at];
     if check::same(word, b"word") {
@@ -51,11 +52,17 @@ fn of_events(
     out: &mut [u8],
     n: usize,
 ) -> usize {
+    if check::same(word, b"event") {
+        return scan_events::event(line, at, data, out, n);
+    }
+    if check::same(word, b"counted") {
+        return scan_events::counted(line, at, data, out, n);
+    }
     if check::same(word, b"preamble") {
-        return events::preamble(line, at, data, out, n);
+        return preambles::preamble(line, at, data, out, n);
     }
     if check::same(word, b"preamble_size") {
-        return events::preamble_size(line, at, out, n);
+        return preambles::preamble_size(line, at, out, n);
     }
     of_names(word, line, at, out, n)
 }

@@ -1,4 +1,4 @@
-// Scan events: the crate `preamble`.
+// Preambles of scan events: the crate `preamble`.
 use crate::answer;
 use crate::request;
 use crate::request::U32;
@@ -6,7 +6,7 @@ use codes::Activation;
 use codes::Code;
 use preamble::ScanEventPreamble;
 
-pub fn preamble_size(line: &[u8], at: usize, out: &mut [u8], n: usize) -> usize {
+pub(crate) fn preamble_size(line: &[u8], at: usize, out: &mut [u8], n: usize) -> usize {
     let version = request::number(line, at, U32);
     if version.end != line.len() {
         return answer::bad(out, n);
@@ -24,7 +24,7 @@ fn put_code(out: &mut [u8], n: usize, code: Code) -> usize {
 }
 
 // An activation as one field.
-fn put_activation(out: &mut [u8], n: usize, activation: Activation) -> usize {
+pub(crate) fn put_activation(out: &mut [u8], n: usize, activation: Activation) -> usize {
     match activation {
         Activation::None => answer::put(out, n, b" 0"),
         Activation::HCD => answer::put(out, n, b" 1"),
@@ -52,7 +52,7 @@ fn put_six(out: &mut [u8], n: usize, s: ScanEventPreamble) -> usize {
     answer::flag(out, n, s.dia)
 }
 
-fn put_settings(out: &mut [u8], n: usize, s: ScanEventPreamble) -> usize {
+pub(crate) fn put_settings(out: &mut [u8], n: usize, s: ScanEventPreamble) -> usize {
     let ionization = s.ionization;
     let activation = s.activation;
     let analyzer = s.analyzer;
@@ -64,7 +64,7 @@ fn put_settings(out: &mut [u8], n: usize, s: ScanEventPreamble) -> usize {
     put_code(out, n, analyzer)
 }
 
-pub fn preamble(line: &[u8], at: usize, data: &mut [u8], out: &mut [u8], n: usize) -> usize {
+pub(crate) fn preamble(line: &[u8], at: usize, data: &mut [u8], out: &mut [u8], n: usize) -> usize {
     let count = request::bytes(line, at, data);
     if count.end != line.len() {
         return answer::bad(out, n);
