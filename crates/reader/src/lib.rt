@@ -126,3 +126,16 @@ pub fn copy_u64s(run: &[u8], at: u64, stride: u64, n: u64, out: &mut [u64])
         i = i + 1;
     }
 }
+
+pub fn copy_u32s(run: &[u8], at: u64, stride: u64, n: u64, out: &mut [u32])
+    ensures { λ _. ⌜ now (out .exit) ≡ fitting (each (λ i. le (bytes (now (run .entry)) (at + i * stride) 4)) n) (now (out .entry)) ⌝ }
+{
+    let room = smaller(n, out.len() as u64) as usize;
+    let mut place = at;
+    let mut i: usize = 0;
+    while i < room {
+        out[i] = u32_at(run, place);
+        place = saturating_add(place, stride);
+        i = i + 1;
+    }
+}
