@@ -18,11 +18,25 @@ pub fn lent8(length: usize) -> Vec<u8> {
     (0..length).map(|i| 0xa5u8.wrapping_add(i as u8)).collect()
 }
 
+/// A slice of 32-bit elements as it is lent.
+pub fn lent32(length: usize) -> Vec<u32> {
+    (0..length as u32).map(|i| 0xa5a5_0000 + i).collect()
+}
+
 /// A slice of 64-bit elements as it is lent.
 pub fn lent64(length: usize) -> Vec<u64> {
     (0..length as u64)
         .map(|i| 0xa5a5_a5a5_0000_0000 + i)
         .collect()
+}
+
+/// The bits of a float that arithmetic or widening made: every NaN counts as one value.
+pub fn made_bits64(value: f64) -> u64 {
+    if value.is_nan() {
+        0x7ff8_0000_0000_0000
+    } else {
+        value.to_bits()
+    }
 }
 
 /// The answers that were not written yet.
@@ -76,13 +90,17 @@ impl Answers {
         self
     }
 
-    /// A float that arithmetic or widening made: every NaN counts as one value.
-    pub fn made64(&mut self, value: f64) -> &mut Self {
-        self.bits64(if value.is_nan() {
-            0x7ff8_0000_0000_0000
+    /// A float that arithmetic, narrowing or widening made: every NaN counts as one value.
+    pub fn made32(&mut self, value: f32) -> &mut Self {
+        self.bits32(if value.is_nan() {
+            0x7fc0_0000
         } else {
             value.to_bits()
         })
+    }
+
+    pub fn made64(&mut self, value: f64) -> &mut Self {
+        self.bits64(made_bits64(value))
     }
 
     pub fn number_or_none<N: Display>(&mut self, number: Option<N>) -> &mut Self {
@@ -120,6 +138,15 @@ impl Answers {
         self.put(" |");
         for element in slice {
             let _ = write!(self.text, " {element:02x}");
+        }
+        self
+    }
+
+    /// A lent slice of 32-bit elements after the call.
+    pub fn slice32(&mut self, slice: &[u32]) -> &mut Self {
+        self.put(" |");
+        for element in slice {
+            self.bits32(*element);
         }
         self
     }

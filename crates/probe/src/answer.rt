@@ -113,6 +113,17 @@ pub(crate) fn slice8(out: &mut [u8], n: usize, lent: &[u8]) -> usize {
     n
 }
 
+// A lent slice of 32-bit elements after the call.
+pub(crate) fn slice32(out: &mut [u8], n: usize, lent: &[u32]) -> usize {
+    let mut n = put(out, n, b" |");
+    let mut i: usize = 0;
+    while i < lent.len() {
+        n = bits32(out, n, lent[i]);
+        i = i + 1;
+    }
+    n
+}
+
 // A lent slice of 64-bit elements after the call.
 pub(crate) fn slice64(out: &mut [u8], n: usize, lent: &[u64]) -> usize {
     let mut n = put(out, n, b" |");

@@ -2,6 +2,7 @@
 // The program in reference/ prints the same.
 mod answer;
 mod names;
+mod packets;
 mod preambles;
 mod request;
 mod scan_events;

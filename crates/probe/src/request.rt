@@ -182,6 +182,15 @@ pub(crate) fn fill(lent: &mut [u8]) {
     }
 }
 
+// What a lent slice of 32-bit elements holds before the call.
+pub(crate) fn fill32(lent: &mut [u32]) {
+    let mut i: usize = 0;
+    while i < lent.len() {
+        lent[i] = (0xa5a5_0000 + i % 0x1_0000) as u32;
+        i = i + 1;
+    }
+}
+
 // What a lent slice of 64-bit elements holds before the call.
 pub(crate) fn fill64(lent: &mut [u64]) {
     let mut i: usize = 0;

@@ -1,6 +1,7 @@
 // The request words, in a chain of a few functions: one with all the tests would take long to prove.
 use crate::answer;
 use crate::names;
+use crate::packets;
 use crate::preambles;
 use crate::scan_events;
 use crate::scans;
@@ -63,6 +64,29 @@ fn of_events(
     }
     if check::same(word, b"preamble_size") {
         return preambles::preamble_size(line, at, out, n);
+    }
+    of_packets(word, line, at, data, out, n)
+}
+
+fn of_packets(
+    word: &[u8],
+    line: &[u8],
+    at: usize,
+    data: &mut [u8],
+    out: &mut [u8],
+    n: usize,
+) -> usize {
+    if check::same(word, b"packet_header") {
+        return packets::packet_header(line, at, data, out, n);
+    }
+    if check::same(word, b"peaks") {
+        return packets::peaks(line, at, data, out, n);
+    }
+    if check::same(word, b"narrow") {
+        return packets::narrow(line, at, out, n);
+    }
+    if check::same(word, b"noise") {
+        return packets::noise(line, at, data, out, n);
     }
     of_names(word, line, at, out, n)
 }
