@@ -3,9 +3,8 @@ use Prim.Native.Nat.{ℕ, _+_, _*_}
 use mathlib.Core.List.{List}
 use Rattle.refusal.specs.Outcome.{Outcome, ok}
 use Rattle.refusal.specs.Number.{toldRefusal}
-use Rattle.window.specs.Window.{windowAt}
+use Rattle.window.specs.Window.{windowAt, endBits}
 use Rattle.coefficient.specs.Coefficients.{coefficientCount}
-use Rattle.event_from_66.specs.Layout.{endBits}
 use Rattle.event_counted.specs.Layout.{kept}
 use Rattle.event_counted.specs.declared.Records.{Records}
 use Rattle.event_counted.specs.declared.Records.the-variants.{Sound, Refused}

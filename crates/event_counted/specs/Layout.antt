@@ -8,10 +8,9 @@ use Rattle.lists.specs.Written.{each}
 use Rattle.parser.specs.Parser.{Parser, done, _>>=_, raw, bytes, le, left}
 use Rattle.parser.specs.Call.{outcome, single}
 use Rattle.preamble.specs.Settings.{isPrimary}
-use Rattle.window.specs.Window.{windowAt}
+use Rattle.window.specs.Window.{windowAt, endBits}
 use Rattle.coefficient.specs.Coefficients.{coefficients}
 use Rattle.reaction.specs.Reactions.{bitsAt, acceptable}
-use Rattle.event_from_66.specs.Layout.{endBits}
 use Rattle.scan_event.specs.Event.{Event, Decoded, handOut}
 use Rattle.scan_event.specs.declared.Lent.{Lent}
 

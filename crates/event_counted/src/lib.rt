@@ -7,7 +7,6 @@ ghost use Rattle.scan_event.specs.Event.{handOut, result, resultOf};
 ghost use Rattle.event_counted.specs.Layout.{judgeRecord, judgeRecords, kept, countedEvent, bodyOutcome, readCounted};
 ghost use Rattle.event_counted.specs.Judged.{toldRecords, judgedOf};
 use coefficient::coefficient_count;
-use event_from_66::end_bits;
 use preamble::is_primary;
 use reaction::acceptable;
 use reader::copy_bytes;
@@ -22,6 +21,7 @@ use scan_event::Judged;
 use scan_event::Lent;
 use scan_event::describe;
 use scan_event::has_room;
+use window::end_bits;
 use window::plausible_window;
 
 // What was found of the reaction records.

@@ -2,12 +2,10 @@
 -- Assumes nothing.
 use mathlib.Core.Path.{_≡_}
 use Prim.Native.Nat.{ℕ, _+_, _-_, _≤_, _<_}
-use native.Mathlib.Omega.{arith}
 use mathlib.Core.Bool.{Bool, _&&_, not, cond}
 use mathlib.Core.List.{List}
 use lib.Dec.{eqb}
 use Rattle.preamble.specs.Settings.{isPrimary}
-use lib.ListN.{take, drop}
 use borrow.Author.Tests.{le-leb, lt-leb}
 use Rattle.refusal.specs.Outcome.{ranOut}
 use Rattle.parser.specs.Parser.{parse, bytes, left}
@@ -39,7 +37,3 @@ module _ (primary dependent : ℕ) (lent : Lent) (s : List ℕ) (at : ℕ) where
   from-parts t {size} hp hq hs hb ht u =
       let e : size ≡ bodySize (bytes s at 136) primary dependent = rw (← hp, ← hq) hs in
       rw (hb, ht, hq, hp) (whole t size e u)
-
--- a part of the run from a place on
-pub part-is : (s : List ℕ) (at n : ℕ) → take (at + n - at) (drop at s) ≡ bytes s at n
-part-is s at n = let e : at + n - at ≡ n = omega arith in rw e

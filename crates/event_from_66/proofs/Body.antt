@@ -4,8 +4,6 @@ use mathlib.Core.Path.{_≡_, sym}
 use Prim.Native.Nat.{ℕ, _+_, _*_}
 use mathlib.Core.Bool.{Bool}
 use mathlib.Core.List.{List}
-use lib.ListN.{length}
-use lib.Seq.{take-length}
 use Rattle.lists.specs.Written.{each}
 use Rattle.lists.proofs.Laws.{length-each}
 use Rattle.parser.specs.Parser.{bytes, le}
@@ -13,9 +11,6 @@ use Rattle.scan_event.specs.declared.Judged.{Judged}
 use Rattle.scan_event.proofs.Results.{Judges}
 use Rattle.event_from_66.specs.Layout.{eventOf}
 use Rattle.event_from_66.specs.Judged.{judgedOf}
-
-pub all-bytes : (s : List ℕ) → bytes s 0 (length s) ≡ s
-all-bytes s = take-length s
 
 module _ (preamble body : List ℕ) (tribrid : Bool) {j : Judged} (e : j ≡ judgedOf preamble body tribrid) where
   pub judges : Judges j (eventOf preamble body tribrid)

@@ -4,9 +4,9 @@ use mathlib.Core.Bool.{Bool}
 use mathlib.Core.List.{List}
 use lib.ListN.{length}
 use Rattle.preamble.specs.Settings.{isPrimary}
-use Rattle.window.specs.Window.{found}
+use Rattle.window.specs.Window.{found, endBits}
 use Rattle.coefficient.specs.Coefficients.{wordPlace, coefficientCount}
-use Rattle.event_from_66.specs.Layout.{endBits, reactionsOf}
+use Rattle.event_from_66.specs.Layout.{reactionsOf}
 use Rattle.scan_event.specs.declared.Judged.{Judged}
 
 -- the count word's place

@@ -6,12 +6,10 @@ use mathlib.Core.List.{List, []}
 use lib.Dec.{leb, eqb}
 use lib.ListN.{length}
 use Rattle.refusal.specs.Outcome.{Outcome}
-use Rattle.parser.specs.Parser.{Parser, done, _>>=_, raw, bytes, le}
+use Rattle.parser.specs.Parser.{Parser, done, _>>=_, raw}
 use Rattle.parser.specs.Call.{outcome, single}
 use Rattle.preamble.specs.Settings.{byte, isPrimary, isDependent}
-use Rattle.window.specs.Window.{found}
-use Rattle.window.specs.declared.Window.{Window}
-use Rattle.window.specs.declared.Window.the-variants.{Absent, Ends}
+use Rattle.window.specs.Window.{found, endBits}
 use Rattle.coefficient.specs.Coefficients.{wordPlace, coefficients}
 use Rattle.reaction.specs.Reactions.{Reaction, reactionsIn}
 use Rattle.scan_event.specs.Event.{Event, Decoded, handOut}
@@ -23,11 +21,6 @@ bodySize preamble primary dependent = cond (isPrimary preamble) primary dependen
 
 abbrev pub isTribrid : List ℕ → ℕ → ℕ → Bool
 isTribrid preamble primary dependent = not (eqb primary dependent) && not (isPrimary preamble)
-
--- the bits of an end of the window
-abbrev pub endBits : Window → List ℕ → ℕ → ℕ
-endBits Absent body place = 0
-endBits (Ends low high) body place = le (bytes body place 8)
 
 -- reactions are sought if byte 6 ≥ 2 or byte 10 = 1
 abbrev pub sought : List ℕ → Bool

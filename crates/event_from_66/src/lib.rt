@@ -7,7 +7,7 @@ ghost use lib.ListN.{length};
 ghost use Rattle.lists.specs.Written.{fitting};
 ghost use Rattle.reaction.specs.Reactions.{precursors as precursorsOf, energies as energiesOf};
 ghost use Rattle.scan_event.specs.Event.{handOut, result, resultOf};
-ghost use Rattle.event_from_66.specs.Layout.{endBits, reactionsOf, eventOf, readFrom66};
+ghost use Rattle.event_from_66.specs.Layout.{reactionsOf, eventOf, readFrom66};
 ghost use Rattle.event_from_66.specs.Judged.{judgedOf};
 use coefficient::coefficient_count;
 use coefficient::word_place;
@@ -17,7 +17,6 @@ use reaction::write_reactions;
 use reader::copy_bytes;
 use reader::copy_u64s;
 use reader::remaining;
-use reader::u64_at;
 use refusal::Part;
 use refusal::Refusal;
 use scan_event::EventAnswer;
@@ -25,18 +24,8 @@ use scan_event::Judged;
 use scan_event::Lent;
 use scan_event::describe;
 use scan_event::has_room;
-use window::Window;
+use window::end_bits;
 use window::find_window;
-
-// The bits of an end of the window at a place of the body, 0 where it is absent.
-pub fn end_bits(window: Window, body: &[u8], place: u64) -> u64
-    ensures { λ r. ⌜ r ≡ endBits window (now (body .entry)) place ⌝ }
-{
-    match window {
-        Window::Absent => 0,
-        Window::Ends(_, _) => u64_at(body, place),
-    }
-}
 
 // How many reactions there are, and their columns. A primary event has none.
 fn count_of(bytes: &[u8], body: &[u8], tribrid: bool) -> u64

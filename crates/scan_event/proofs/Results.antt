@@ -1,13 +1,13 @@
 -- A call's result from its outcome: a refusal leaves the slices, and an event is written over their fronts.
 -- Assumes nothing.
 use mathlib.Core.Path.{_≡_, refl, sym, _∙_}
-use Prim.Native.Nat.{ℕ, _-_, _≤_}
+use Prim.Native.Nat.{ℕ, _+_, _-_, _≤_}
 use native.Mathlib.Omega.{arith}
 use mathlib.Core.Bool.{Bool, true, false, _&&_}
 use mathlib.Core.List.{List}
 use lib.Dec.{leb}
 use lib.ListN.{length, take, drop}
-use lib.Seq.{take-at}
+use lib.Seq.{take-at, take-length}
 use borrow.Author.Tests.{leb-true}
 use Rattle.refusal.specs.Outcome.{Outcome}
 use Rattle.refusal.specs.Number.{toldRefusal}
@@ -15,6 +15,7 @@ use Rattle.refusal.specs.declared.Refusal.{Refusal}
 use Rattle.refusal.specs.declared.Refusal.the-variants.{NoRoom}
 use Rattle.lists.specs.Written.{over, fitting}
 use Rattle.lists.proofs.Laws.{fitting-all}
+use Rattle.parser.specs.Parser.{bytes}
 use Rattle.reaction.specs.Reactions.{precursors, energies}
 use Rattle.reaction.proofs.Count.{length-precursors, all-precursors, all-energies}
 use Rattle.scan_event.specs.Event.{Event, Decoded, decoded, describe, lentOf, hasRoom, handOut, result, resultOf}
@@ -107,3 +108,10 @@ module _ (j : Judged) (event : Event) (true-of : Judges j event) where
       → s ≡ decoded event next .event
   described-judged q q′ next h f d =
       described-of event _ _ _ refl (true-of .reactions) (true-of .coefficients) q q′ next h f (d ∙ rw (true-of .window, true-of .low, true-of .high))
+
+-- all of a slice, and a part of a run from a place on, as bytes
+pub all-bytes : (s : List ℕ) → bytes s 0 (length s) ≡ s
+all-bytes s = take-length s
+
+pub part-is : (s : List ℕ) (at n : ℕ) → take (at + n - at) (drop at s) ≡ bytes s at n
+part-is s at n = let e : at + n - at ≡ n = omega arith in rw e

@@ -7,10 +7,9 @@ use denote.Ref.{now}
 use Rattle.refusal.specs.declared.Part.the-variants.{Event}
 use Rattle.refusal.specs.declared.Refusal.the-variants.{Short}
 use Rattle.scan_event.specs.Event.{lentOf, leaves}
-use Rattle.scan_event.proofs.Results.{refused-result}
+use Rattle.scan_event.proofs.Results.{refused-result, part-is}
 use Rattle.event_counted.specs.Layout.{readCounted}
 use Rattle.event_counted.proofs.Answers.{short-preamble, short-body, whole}
-use Rattle.event_from_66.proofs.Answers.{part-is}
 use borrow.Author.Needs.{needs}
 use Rattle.event_counted.proofs.read_counted_v66.Statement.{statement}
 use Rattle.event_counted.proofs.read_counted_v66.Tie as tie

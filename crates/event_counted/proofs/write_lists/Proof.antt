@@ -3,7 +3,7 @@
 use mathlib.Core.Path.{_∙_, ap}
 use denote.Ref.{now}
 use Rattle.lists.specs.Written.{fitting}
-use Rattle.event_from_66.proofs.Body.{all-bytes}
+use Rattle.scan_event.proofs.Results.{all-bytes}
 use Rattle.event_counted.specs.Layout.{countedEvent}
 use Rattle.event_counted.proofs.Body.{precursors-are, energies-are, coefficients-are}
 use borrow.Author.Needs.{needs}

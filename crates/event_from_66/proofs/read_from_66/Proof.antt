@@ -9,9 +9,9 @@ use Rattle.refusal.specs.declared.Part.the-variants.{Event}
 use Rattle.refusal.specs.declared.Refusal.the-variants.{Short}
 use Rattle.preamble.specs.Settings.{isPrimary}
 use Rattle.scan_event.specs.Event.{lentOf, leaves}
-use Rattle.scan_event.proofs.Results.{refused-result}
+use Rattle.scan_event.proofs.Results.{refused-result, part-is}
 use Rattle.event_from_66.specs.Layout.{readFrom66}
-use Rattle.event_from_66.proofs.Answers.{short-preamble, short-body, from-parts, part-is}
+use Rattle.event_from_66.proofs.Answers.{short-preamble, short-body, from-parts}
 use borrow.Author.Needs.{needs}
 use Rattle.event_from_66.proofs.read_from_66.Statement.{statement}
 use Rattle.event_from_66.proofs.read_from_66.Tie as tie

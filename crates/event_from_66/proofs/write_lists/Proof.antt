@@ -4,7 +4,8 @@ use mathlib.Core.Path.{_∙_, ap}
 use denote.Ref.{now}
 use Rattle.lists.specs.Written.{fitting}
 use Rattle.event_from_66.specs.Layout.{eventOf}
-use Rattle.event_from_66.proofs.Body.{all-bytes, coefficients-are}
+use Rattle.scan_event.proofs.Results.{all-bytes}
+use Rattle.event_from_66.proofs.Body.{coefficients-are}
 use borrow.Author.Needs.{needs}
 use Rattle.event_from_66.proofs.write_lists.Statement.{statement}
 use Rattle.event_from_66.proofs.write_lists.Tie as tie
