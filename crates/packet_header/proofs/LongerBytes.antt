@@ -1,13 +1,15 @@
--- Demand 3 for a packet's header.
+-- Demand 3 for a packet's header, and the sizes in it.
 -- Assumes nothing.
-use Prim.Native.Nat.{ℕ, _^_, _-_}
+use Prim.Native.Nat.{ℕ, _^_, _-_, _<_}
 use lib.Dec.{lit≤}
 use Rattle.refusal.specs.Outcome.{ok}
 use Rattle.parser.specs.Call.{single}
 use Rattle.parser.specs.LongerBytes.{PrefixProperty, Completes}
-use Rattle.parser.proofs.Completion.{Bounded, bounded-sized}
+use Rattle.parser.proofs.Completion.{Bounded, bounded-sized, Yields, yields-word}
+use Rattle.parser.proofs.Asks.{Asks, Any, asks-sized, asks-known}
 use Rattle.parser.proofs.Calls.{prefix-property, single-completes}
 use Rattle.packet_header.specs.Header.{header, readHeader}
+use Rattle.packet_header.specs.declared.PacketHeader.{PacketHeader}
 use Rattle.packet_header.proofs.Size.{header-sized}
 
 pub header-bounded : Bounded (2 ^ 62) (2 ^ 62 - 1) header
@@ -20,3 +22,24 @@ header-prefix at = prefix-property (single 4 at header (λ h _. ok h))
 pub header-completes : (at : ℕ) → Completes 4 at (readHeader at)
 unfolding readHeader
 header-completes at = single-completes 4 at header (λ h _. ok h) header-bounded (λ _ _. tt)
+
+-- sizes that were read are below 2^32
+pub record Sizable (h : PacketHeader) : Type 0 where
+  pub profile : h .«profile_size» < 256 ^ 4
+  pub descriptors : h .«descriptor_list_size» < 256 ^ 4
+  pub unknown : h .«unknown_stream_size» < 256 ^ 4
+  pub triplets : h .«triplet_stream_size» < 256 ^ 4
+
+header-sizable : Yields Sizable header
+unfolding header
+header-sizable =
+    λ _ _ _ a la pa _ _ _ _ _ _ b lb pb c lc pc d ld pd _ _ _ _ _ _ _ _ _.
+    record {
+      profile = yields-word 4 a la pa;
+      descriptors = yields-word 4 b lb pb;
+      unknown = yields-word 4 c lc pc;
+      triplets = yields-word 4 d ld pd;
+    }
+
+pub header-asks : (far : ℕ) → Asks far 40 Sizable header
+header-asks far = asks-known far 40 header Any Sizable (asks-sized far 40 header header-sized) header-sizable

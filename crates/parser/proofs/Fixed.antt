@@ -5,7 +5,7 @@ use mathlib.Core.Logic.{⊎-elim}
 use Prim.Native.Nat.{ℕ, zero, suc, _+_, _*_, _-_, _≤_, _<_}
 use native.Mathlib.Nat.{add-zero, add-assoc, suc-mul, zero-mul}
 use native.Mathlib.Omega.{arith}
-use mathlib.Core.Bool.{Bool, true, false}
+use mathlib.Core.Bool.{Bool, true, false, cond}
 use mathlib.Core.List.{List, _∷_}
 use lib.ListN.{length, getD}
 use lib.Dec.{T, leb, eqb, when, eqb→eq}
@@ -136,6 +136,11 @@ sized-word n = sized-raw n
 -- a count that is checked before
 pub sized-ahead : {A : Type 0} (n m : ℕ) (p : Parser A) → m ≤ n → Sized n p → Sized n (ahead m p)
 sized-ahead n m p h z = when-both (leb m n) (le-leb m n h) z
+
+-- one of two, of the same size
+pub sized-cond : {A : Type 0} (n : ℕ) (b : Bool) (p q : Parser A) → (b ≡ true → Sized n p) → (b ≡ false → Sized n q) → Sized n (cond b p q)
+sized-cond n true p q x y = x refl
+sized-cond n false p q x y = y refl
 
 -- a list of n records of one size
 module _ {A : Type 0} (size : ℕ) (p : Parser A) (z : Sized size p) where

@@ -95,7 +95,8 @@ pub fn u64_at(run: &[u8], at: u64) -> u64
     (u32_at(run, at) as u64) + 0x1_0000_0000 * (u32_at(run, saturating_add(at, 4)) as u64)
 }
 
-fn smaller(a: u64, b: u64) -> u64
+// The smaller of two counts.
+pub fn smaller(a: u64, b: u64) -> u64
     ensures { λ r. ⌜ r ≡ min a b ⌝ }
 {
     if a <= b { a } else { b }

@@ -1,0 +1,178 @@
+// From a profile's bins to pairs of m/z and intensity (`freq_to_mz`, and the inner loop of `Profile::to_mz_intensity`, of
+// scan_data.rs).
+ghost use mathlib.Core.Path.{_≡_};
+ghost use Prim.Native.Nat.{min, max};
+ghost use lib.ListN.{set};
+ghost use Rattle.lists.specs.Written.{each, fitting};
+ghost use Rattle.calibration.specs.Convert.{series, freqToMz, mzOf, intensityAt};
+ghost use Rattle.calibration.specs.Layout.{layoutOf, mzBy, axisOf, mzOn};
+use floats::f64_of_bits;
+use floats::widened;
+use reader::saturating_add;
+use reader::u32_at;
+
+// Where a profile's bins lie: the frequency of bin 0 and the distance to the next, as the bits of f64 numbers.
+pub struct Bins {
+    pub first_value: u64,
+    pub step: u64,
+}
+
+// What the number of coefficients says, with A, B and C. It is worked out once for all bins of a chunk.
+enum Layout {
+    // What is stored is m/z already (ion trap).
+    None,
+    // LTQ-FT and ICR.
+    Frequency(f64, f64, f64),
+    // Orbitrap.
+    SquaredFrequency(f64, f64, f64),
+    Unknown,
+}
+
+// What else a chunk's bins have in common.
+struct Axis {
+    first_value: f64,
+    step: f64,
+    first_bin: f64,
+    fudge: f64,
+}
+
+fn layout_of(coefficients: &[u64]) -> Layout
+    ensures { λ r. ⌜ r ≡ layoutOf (now (coefficients .entry)) ⌝ }
+{
+    match coefficients.len() {
+        0 => Layout::None,
+        4 => Layout::Frequency(
+            f64_of_bits(coefficients[1]),
+            f64_of_bits(coefficients[2]),
+            f64_of_bits(coefficients[3]),
+        ),
+        5 | 7 => Layout::SquaredFrequency(
+            f64_of_bits(coefficients[2]),
+            f64_of_bits(coefficients[3]),
+            f64_of_bits(coefficients[4]),
+        ),
+        _ => Layout::Unknown,
+    }
+}
+
+// A + B/g + C/g², each operation rounded.
+fn series_at(a: f64, b: f64, c: f64, g: f64) -> f64
+    ensures { λ r. ⌜ r ≡ series a b c g ⌝ }
+{
+    a + b / g + c / (g * g)
+}
+
+fn mz_by(layout: Layout, freq: f64) -> f64
+    ensures { λ r. ⌜ r ≡ mzBy layout freq ⌝ }
+{
+    if freq == 0.0 {
+        return 0.0;
+    }
+    match layout {
+        Layout::None => freq,
+        Layout::Frequency(a, b, c) => series_at(a, b, c, freq),
+        Layout::SquaredFrequency(a, b, c) => series_at(a, b, c, freq * freq),
+        Layout::Unknown => 0.0 / 0.0,
+    }
+}
+
+// The m/z of a frequency. The coefficients are the bits of f64 numbers.
+pub fn freq_to_mz(freq: f64, coefficients: &[u64]) -> f64
+    ensures { λ r. ⌜ r ≡ freqToMz freq (now (coefficients .entry)) ⌝ }
+{
+    mz_by(layout_of(coefficients), freq)
+}
+
+fn axis_of(bins: Bins, first_bin: u32, fudge: u32) -> Axis
+    ensures { λ r. ⌜ r ≡ axisOf bins «first_bin» fudge ⌝ }
+{
+    let bin = first_bin as f64;
+    Axis {
+        first_value: f64_of_bits(bins.first_value),
+        step: f64_of_bits(bins.step),
+        first_bin: bin,
+        fudge: widened(fudge),
+    }
+}
+
+// The m/z of a chunk's i-th bin. The fudge corrects the m/z, not the frequency.
+fn bin_to_mz(axis: Axis, layout: Layout, i: u64) -> f64
+    ensures { λ r. ⌜ r ≡ mzOn axis layout i ⌝ }
+{
+    let fudge = axis.fudge;
+    let index = std::num::nearest_u64_to_f64(i);
+    let freq = axis.first_value + (axis.first_bin + index) * axis.step;
+    mz_by(layout, freq) + fudge
+}
+
+// How many pairs to go through: no more than the longer slice has elements.
+fn pair_count(n: u64, mz: u64, intensity: u64) -> u64
+    ensures { λ r. ⌜ r ≡ min n (max mz intensity) ⌝ }
+{
+    if n <= mz {
+        return n;
+    }
+    if n <= intensity {
+        return n;
+    }
+    if mz <= intensity { intensity } else { mz }
+}
+
+// Writes nothing behind the end.
+fn put(out: &mut [f64], i: usize, v: f64)
+    ensures { λ _. ⌜ now (out .exit) ≡ set (now (out .entry)) i v ⌝ }
+{
+    if i < out.len() {
+        out[i] = v;
+    }
+}
+
+fn write_pairs(
+    run: &[u8],
+    at: u64,
+    n: u64,
+    axis: Axis,
+    layout: Layout,
+    mz: &mut [f64],
+    intensity: &mut [f64],
+)
+    ensures { λ _. ⌜ now (mz .exit) ≡ fitting (each (mzOn axis layout) n) (now (mz .entry)) ⌝ }
+    ensures { λ _. ⌜ now (intensity .exit) ≡ fitting (each (intensityAt (now (run .entry)) at) n) (now (intensity .entry)) ⌝ }
+{
+    let count = pair_count(n, mz.len() as u64, intensity.len() as u64) as usize;
+    let mut place = at;
+    let mut i: usize = 0;
+    while i < count {
+        put(mz, i, bin_to_mz(axis, layout, i as u64));
+        put(intensity, i, widened(u32_at(run, place)));
+        place = saturating_add(place, 4);
+        i = i + 1;
+    }
+}
+
+// The n pairs of the chunk whose signal starts at a place of the run, over the fronts of both slices, as far as each
+// goes. `fudge` has the bits of an f32, 0 for a chunk without one.
+pub fn write_chunk(
+    run: &[u8],
+    at: u64,
+    n: u64,
+    first_bin: u32,
+    fudge: u32,
+    bins: Bins,
+    coefficients: &[u64],
+    mz: &mut [f64],
+    intensity: &mut [f64],
+)
+    ensures { λ _. ⌜ now (mz .exit) ≡ fitting (each (mzOf bins «first_bin» fudge (now (coefficients .entry))) n) (now (mz .entry)) ⌝ }
+    ensures { λ _. ⌜ now (intensity .exit) ≡ fitting (each (intensityAt (now (run .entry)) at) n) (now (intensity .entry)) ⌝ }
+{
+    write_pairs(
+        run,
+        at,
+        n,
+        axis_of(bins, first_bin, fudge),
+        layout_of(coefficients),
+        mz,
+        intensity,
+    );
+}

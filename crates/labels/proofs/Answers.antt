@@ -1,0 +1,143 @@
+-- What reading the label streams answers: one test judges them all.
+-- Assumes nothing.
+use mathlib.Core.Path.{_≡_, refl, ap, sym, subst, _∙_}
+use Prim.Native.Nat.{ℕ, _+_, _*_, _-_, _/_, _≤_, _<_}
+use native.Mathlib.Nat.{add-zero, zero-add}
+use native.Mathlib.Omega.{arith}
+use mathlib.Core.List.{List}
+use lib.Dec.{leb}
+use lib.ListN.{length}
+use borrow.Author.Tests.{le-leb, lt-leb, leb-true}
+use Rattle.refusal.specs.Outcome.{ok, refused, ranOut}
+use Rattle.lists.specs.Written.{each}
+use Rattle.lists.proofs.Laws.{length-each}
+use Rattle.parser.specs.Parser.{Parser, done, short, parsed, within, parse, bytes, le, left, _>>=_}
+use Rattle.parser.specs.Call.{outcome}
+use Rattle.parser.specs.Fixed.{Sized, value}
+use Rattle.parser.proofs.Prefix.{within-parsed}
+use Rattle.parser.proofs.Fixed.{parse-sized, sized-bind, value-bind}
+use Rattle.parser.proofs.Answered.{found, RanOut, ran-out}
+use Rattle.packet_header.specs.declared.PacketHeader.{PacketHeader}
+use Rattle.labels.specs.Labels.{keptCount, descriptors, resolutions, triplets, Streams, labels, located, readLabels}
+use Rattle.labels.specs.declared.Labels.{Labels}
+use Rattle.labels.proofs.Streams.{descriptors-sized, resolutions-sized, triplets-sized, descriptors-value, resolutions-value, triplets-value}
+
+-- the three streams as one
+abbrev pub total : PacketHeader → ℕ
+total h = (h .«descriptor_list_size» + h .«unknown_stream_size» + h .«triplet_stream_size») * 4
+
+-- what follows the resolutions, and what follows the descriptors
+last : PacketHeader → List ℕ → List ℕ → Parser Streams
+last h ds rs = triplets (h .«triplet_stream_size») >>= λ nodes. done (record { descriptors = ds; resolutions = rs; nodes = nodes })
+
+more : PacketHeader → ℕ → List ℕ → Parser Streams
+more h n ds = resolutions n (h .«unknown_stream_size») >>= last h ds
+
+module _ (h : PacketHeader) (n : ℕ) where
+  last-sized : (ds rs : List ℕ) → Sized (h .«triplet_stream_size» * 4 + 0) (last h ds rs)
+  unfolding last
+  last-sized ds rs = sized-bind (h .«triplet_stream_size» * 4) 0 (triplets (h .«triplet_stream_size»)) _ (triplets-sized (h .«triplet_stream_size»)) (λ _. tt)
+
+  more-sized : (ds : List ℕ) → Sized (h .«unknown_stream_size» * 4 + (h .«triplet_stream_size» * 4 + 0)) (more h n ds)
+  unfolding more
+  more-sized ds =
+      sized-bind (h .«unknown_stream_size» * 4) (h .«triplet_stream_size» * 4 + 0) (resolutions n (h .«unknown_stream_size»)) (last h ds) (resolutions-sized n (h .«unknown_stream_size»)) (last-sized ds)
+
+  pub labels-sized : Sized (total h) (labels h n)
+  unfolding labels more last
+  labels-sized =
+      let d = h .«descriptor_list_size» * 4 in
+      let rest = h .«unknown_stream_size» * 4 + (h .«triplet_stream_size» * 4 + 0) in
+      let e : d + rest ≡ total h = omega arith in
+      subst (λ (k : ℕ). Sized k (labels h n)) e (sized-bind d rest (descriptors n (h .«descriptor_list_size»)) (more h n) (descriptors-sized n (h .«descriptor_list_size»)) more-sized)
+
+  module _ (s : List ℕ) (at : ℕ) where
+    -- the words that are kept, by their places
+    abbrev pub descriptorsAt : List ℕ
+    descriptorsAt = each (λ i. le (bytes s (at + i * 4) 4)) (keptCount n (h .«descriptor_list_size») 0)
+
+    abbrev pub resolutionsAt : List ℕ
+    resolutionsAt = each (λ i. le (bytes s (at + h .«descriptor_list_size» * 4 + 4 + i * 4) 4)) (keptCount n (h .«unknown_stream_size») 1)
+
+    abbrev pub nodesAt : List ℕ
+    nodesAt = bytes s (at + (h .«descriptor_list_size» + h .«unknown_stream_size») * 4) (h .«triplet_stream_size» / 3 * 12)
+
+    abbrev pub streamsAt : Streams
+    streamsAt = record { descriptors = descriptorsAt; resolutions = resolutionsAt; nodes = nodesAt }
+
+    labels-value : value (labels h n) s at 0 ≡ streamsAt
+    unfolding labels more last
+    labels-value =
+        let d = h .«descriptor_list_size» * 4 in
+        let u = h .«unknown_stream_size» * 4 in
+        let ds = value (descriptors n (h .«descriptor_list_size»)) s at 0 in
+        let start : at + 0 ≡ at = add-zero at in
+        let place : 0 + d ≡ d = zero-add d in
+        let nodes : at + (d + u) ≡ at + (h .«descriptor_list_size» + h .«unknown_stream_size») * 4 = omega arith in
+        value-bind d (descriptors n (h .«descriptor_list_size»)) (more h n) (descriptors-sized n (h .«descriptor_list_size»)) s at 0
+        ∙ value-bind u (resolutions n (h .«unknown_stream_size»)) (last h ds) (resolutions-sized n (h .«unknown_stream_size»)) s at (0 + d)
+        ∙ value-bind (h .«triplet_stream_size» * 4) (triplets (h .«triplet_stream_size»)) _ (triplets-sized (h .«triplet_stream_size»)) s at (0 + d + u)
+        ∙ rw (
+          descriptors-value n (h .«descriptor_list_size») s at 0,
+          resolutions-value n (h .«unknown_stream_size») s at (0 + d),
+          triplets-value (h .«triplet_stream_size») s at (0 + d + u),
+          start,
+          place,
+          nodes,
+        )
+
+    parse-labels : parse (labels h n) s at ≡ within (leb (total h) (left s at)) (parsed streamsAt (at + total h))
+    parse-labels = parse-sized (total h) (labels h n) labels-sized s at ∙ rw labels-value
+
+    pub labels-short : left s at < total h → ranOut 4 ≡ readLabels h n at s
+    unfolding readLabels outcome
+    labels-short t = rw (parse-labels, lt-leb _ _ t)
+
+    abbrev pub labelsAt : Labels
+    labelsAt =
+        record {
+          descriptors = keptCount n (h .«descriptor_list_size») 0;
+          «descriptors_at» = at;
+          resolutions = keptCount n (h .«unknown_stream_size») 1;
+          «unknown_at» = at + h .«descriptor_list_size» * 4;
+          «noise_nodes» = h .«triplet_stream_size» / 3;
+          «nodes_at» = at + (h .«descriptor_list_size» + h .«unknown_stream_size») * 4;
+          next = at + total h;
+        }
+
+    pub labels-whole : total h ≤ left s at → ok labelsAt ≡ readLabels h n at s
+    unfolding readLabels outcome located
+    labels-whole t =
+        let ds : length descriptorsAt ≡ keptCount n (h .«descriptor_list_size») 0 = length-each _ (keptCount n (h .«descriptor_list_size») 0) in
+        let rs : length resolutionsAt ≡ keptCount n (h .«unknown_stream_size») 1 = length-each _ (keptCount n (h .«unknown_stream_size») 1) in
+        let a : at + total h - total h ≡ at = omega arith in
+        let b : at + total h - (h .«unknown_stream_size» + h .«triplet_stream_size») * 4 ≡ at + h .«descriptor_list_size» * 4 = omega arith in
+        let c : at + total h - h .«triplet_stream_size» * 4 ≡ at + (h .«descriptor_list_size» + h .«unknown_stream_size») * 4 = omega arith in
+        rw (parse-labels, le-leb _ _ t, ds, rs, a, b, c)
+
+    -- streams that were read, by the places that were answered
+    pub record Labelled (l : Labels) : Type 0 where
+      pub streams : Streams
+      pub there : parse (labels h n) s at ≡ parsed streams (l .next)
+      pub made : l ≡ located h streams (l .next)
+      pub descriptors : streams .descriptors ≡ each (λ i. le (bytes s (l .«descriptors_at» + i * 4) 4)) (l .descriptors)
+      pub resolutions : streams .resolutions ≡ each (λ i. le (bytes s (l .«unknown_at» + 4 + i * 4) 4)) (l .resolutions)
+      pub nodes : streams .nodes ≡ bytes s (l .«nodes_at») (l .«noise_nodes» * 12)
+
+    pub labelled : {l : Labels} → ok l ≡ readLabels h n at s → Labelled l
+    unfolding readLabels located
+    labelled {l} e =
+        let f = found 4 at (labels h n) (located h) s e in
+        let w = within-parsed (leb (total h) (left s at)) _ (sym parse-labels ∙ f .there) in
+        let t = leb-true (total h) (left s at) (w .0) in
+        let v : f .value ≡ streamsAt = cc (w .1) in
+        let m : f .next ≡ at + total h = cc (w .1) in
+        let whole = labels-whole t in
+        let is : ok l ≡ ok labelsAt = e ∙ sym whole in
+        let same : labelsAt ≡ l = cc in
+        subst Labelled same
+        (record { streams = streamsAt; there = f .there ∙ rw (v, m); made = cc whole; descriptors = refl; resolutions = refl; nodes = refl })
+
+    pub unlabelled : {number : ℕ} {carries : List ℕ} → refused number carries ≡ readLabels h n at s → RanOut 4 (labels h n) s at number carries
+    unfolding readLabels
+    unlabelled e = ran-out 4 at (labels h n) (located h) s e

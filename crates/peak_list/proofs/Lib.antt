@@ -1,0 +1,4 @@
+pub mod Lists
+pub mod Skipping
+pub mod Told
+pub mod LongerBytes

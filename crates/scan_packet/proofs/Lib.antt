@@ -1,0 +1,4 @@
+pub mod Lists
+pub mod Found
+pub mod Room
+pub mod Told

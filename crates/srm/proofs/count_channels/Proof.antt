@@ -1,0 +1,69 @@
+-- `srm::count_channels` meets its contract: each way out is decided by the tests that led there.
+-- Assumes nothing.
+use native.Mathlib.Nat.{mul-le-mul-left}
+use native.Mathlib.Omega.{arith}
+use denote.Ref.{now}
+use Rattle.srm.proofs.Counting.{no-count, no-channels, short-table, whole-table}
+use borrow.Author.Needs.{needs}
+use Rattle.srm.proofs.count_channels.Statement.{statement}
+use Rattle.srm.proofs.count_channels.Tie as tie
+
+remaining-requires : tie.Need-remaining-requires
+remaining-requires c κs = search needs
+
+u32-at-requires : tie.Need-u32-at-requires
+u32-at-requires c κs = search needs
+
+cast-n : tie.Need-cast-n
+cast-n c = search needs
+
+returns : tie.Need-returns
+returns c =
+    let a = c .before .before .before .before .before .args in
+    let u = c .before .u32-at in
+    no-channels (a .size) (now (a .run)) (a .at) (omega arith) (u .result) (u .ensures) (c .if2 .taken)
+
+mul-all : tie.Need-mul-all
+mul-all c = omega (arith, mul-le-mul-left (c .before .u32-at .result) (c .before .before .before .before .before .pre))
+
+add-all : tie.Need-add-all
+add-all c = omega (arith, mul-le-mul-left (c .before .u32-at .result) (c .before .before .before .before .before .pre))
+
+add-remaining : tie.Need-add-remaining
+add-remaining c = search needs
+
+remaining-requires-2 : tie.Need-remaining-requires-2
+remaining-requires-2 c κs = search needs
+
+returns-2 : tie.Need-returns-2
+returns-2 c =
+    let a = c .before .before .before .before .before .before .before .args in
+    let u = c .before .before .before .u32-at in
+    whole-table (a .size) (now (a .run)) (a .at) (omega arith) (u .result) (u .ensures) (c .before .before .if2 .left) (omega arith)
+
+returns-3 : tie.Need-returns-3
+returns-3 c =
+    let a = c .before .before .before .before .before .before .before .args in
+    let u = c .before .before .before .u32-at in
+    short-table (a .size) (now (a .run)) (a .at) (omega arith) (u .result) (u .ensures) (c .before .before .if2 .left) (omega arith)
+
+returns-4 : tie.Need-returns-4
+returns-4 c =
+    let a = c .before .before .before .args in
+    no-count (a .size) (now (a .run)) (a .at) (omega arith)
+
+pub count-channels-spec : {M : Type 1} → statement M
+count-channels-spec =
+    tie.close
+    (tie.spec
+    remaining-requires
+    u32-at-requires
+    cast-n
+    returns
+    mul-all
+    add-all
+    add-remaining
+    remaining-requires-2
+    returns-2
+    returns-3
+    returns-4)

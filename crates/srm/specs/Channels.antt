@@ -1,0 +1,27 @@
+-- How many channels a scan has, and its windows by their places, for the private functions. No public promise cites it.
+use Prim.Native.Nat.{ℕ, _+_, _*_}
+use mathlib.Core.Bool.{cond}
+use mathlib.Core.List.{List}
+use lib.Dec.{leb, eqb}
+use Rattle.refusal.specs.Outcome.{Outcome, ok, ranOut}
+use Rattle.refusal.specs.Number.{toldRefusal}
+use Rattle.lists.specs.Written.{each}
+use Rattle.parser.specs.Parser.{bytes, le, left}
+use Rattle.srm.specs.Scan.{Window}
+use Rattle.srm.specs.declared.Channels.{Channels}
+use Rattle.srm.specs.declared.Channels.the-variants.{Count, Refused}
+
+-- how many channels the scan at a place has, where its table takes so many bytes for each
+unfoldable pub channels : ℕ → List ℕ → ℕ → Outcome ℕ
+channels size s at =
+    let n = le (bytes s at 4) in
+    cond (leb 4 (left s at))
+    (cond (eqb n 0) (ok 0) (cond (leb (28 + n * size) (left s (at + 4))) (ok n) (ranOut 4)))
+    (ranOut 4)
+
+abbrev pub toldChannels : Channels → Outcome ℕ
+toldChannels (Count n) = ok n
+toldChannels (Refused r) = toldRefusal r
+
+unfoldable pub windowsAt : List ℕ → ℕ → ℕ → List Window
+windowsAt s at n = each (λ i. (le (bytes s (at + i * 8) 4), le (bytes s (at + i * 8 + 4) 4))) n
