@@ -1,10 +1,11 @@
 -- Records of any size, one behind the other: a loop over them goes on record by record, and counts what each of them holds.
 -- Assumes nothing.
-use mathlib.Core.Path.{_≡_, refl, sym, _∙_}
-use Prim.Native.Nat.{ℕ, suc, _+_, _-_, _<_}
+use mathlib.Core.Path.{_≡_, refl, ap, sym, _∙_}
+use Prim.Native.Nat.{ℕ, zero, suc, _+_, _-_, _<_}
 use native.Mathlib.Nat.{sub-zero, zero-add, add-zero, add-assoc}
 use native.Mathlib.Omega.{arith}
 use mathlib.Core.List.{List, [], _∷_}
+use lib.ListN.{length}
 use Rattle.parser.specs.Parser.{Parser, done, Parsed, short, parsed, parse, repeat, _>>=_}
 use Rattle.parser.specs.Walk.{sum}
 use Rattle.parser.proofs.Prefix.{after, parse-bind, Parts, parts}
@@ -41,6 +42,13 @@ module _ {A : Type 0} (p : Parser A) where
       let r = parts (repeat n p) (with-first (f .first)) s (f .middle) (f .there) in
       let e : r .middle ≡ end = cc (r .there) in
       record { first = f .first; next = f .middle; others = r .first; here = f .here; there = rw e at (r .here); both = cc (r .there) }
+
+pub length-parsed : {A : Type 0} (p : Parser A) (n : ℕ) (s : List ℕ) (at : ℕ) {all : List A} {end : ℕ} → parse (repeat n p) s at ≡ parsed all end → length all ≡ n
+unfolding parse repeat
+length-parsed p zero s at {all} h = let none : all ≡ [] = cc h in ap length none
+length-parsed p (suc n) s at h =
+    let f = first-of p n s at h in
+    ap length (f .both) ∙ ap suc (length-parsed p n s (f .next) (f .there))
 
 -- A loop over n records from `start` on, where f counts what a record holds. After i of them it stands at `at`, and has counted w
 module _ {A : Type 0} (f : A → ℕ) where

@@ -101,6 +101,23 @@ module _ (layout : ℕ) (s : List ℕ) (at : ℕ) where
           let l = listed list (c .points) (c .next) j in
           rw (f, to-list, parse-bind (chunks (isFudged layout) count) (paired (axisAt s at count)) s (at + 24), counted, l .there, l .holds)
 
+-- the chunks of a profile that was parsed, by its record
+chunked-of : (layout : ℕ) (s : List ℕ) (at : ℕ) (p : Axis × List Chunk) (a : Axis) (cs : List Chunk) (place next end : ℕ)
+    → p ≡ (a, cs) → place ≡ at + 24 → end ≡ next → parse (repeat (a .peakCount) (chunk (isFudged layout))) s place ≡ parsed cs end
+    → let v = located layout at p in parse (repeat (v .«peak_count») (chunk (v .fudged))) s (v .«chunks_at») ≡ parsed (p .1) next
+unfolding located
+chunked-of layout s at p a cs place next end b q n h = rw (b, ← q, ← n) h
+
+pub profile-chunks : (layout : ℕ) (s : List ℕ) (at : ℕ) {p : Axis × List Chunk} {next : ℕ} → parse (profile layout) s at ≡ parsed p next
+    → let v = located layout at p in parse (repeat (v .«peak_count») (chunk (v .fudged))) s (v .«chunks_at») ≡ parsed (p .1) next
+unfolding profile rest paired chunks parse
+profile-chunks layout s at {p} {next} h =
+    let a = parts axis (rest layout) s at h in
+    let c = parts (chunks (isFudged layout) (a .first .peakCount)) (paired (a .first)) s (a .middle) (a .there) in
+    let w = within-parsed (leb 24 (left s at)) _ (sym (parse-sized 24 axis axis-sized s at) ∙ a .here) in
+    let i = within-parsed (leb (a .first .peakCount * 8) (left s (a .middle))) _ (c .here) in
+    chunked-of layout s at p (a .first) (c .first) (a .middle) next (c .middle) (cc (c .there)) (cc (w .1)) (cc (c .there)) (i .1)
+
 -- a profile that was read
 pub record Profiled (layout : ℕ) (s : List ℕ) (at : ℕ) (v : Profile) (next : ℕ) : Type 0 where
   pub value : Axis × List Chunk
@@ -108,29 +125,18 @@ pub record Profiled (layout : ℕ) (s : List ℕ) (at : ℕ) (v : Profile) (next
   pub made : v ≡ located layout at value
   pub chunked : parse (repeat (v .«peak_count») (chunk (v .fudged))) s (v .«chunks_at») ≡ parsed (value .1) next
 
-chunked-of : (layout : ℕ) (s : List ℕ) (at : ℕ) (v : Profile) (p : Axis × List Chunk) (a : Axis) (cs : List Chunk) (place end next : ℕ)
-    → v ≡ located layout at p → p ≡ (a, cs) → place ≡ at + 24 → end ≡ next → parse (repeat (a .peakCount) (chunk (isFudged layout))) s place ≡ parsed cs end
-    → parse (repeat (v .«peak_count») (chunk (v .fudged))) s (v .«chunks_at») ≡ parsed (p .1) next
-unfolding located
-chunked-of layout s at v p a cs place end next m b q n h = rw (m, b, ← q, ← n) h
+by-record : (v w : Profile) (s : List ℕ) {o : Parsed (List Chunk)} → v ≡ w → parse (repeat (w .«peak_count») (chunk (w .fudged))) s (w .«chunks_at») ≡ o
+    → parse (repeat (v .«peak_count») (chunk (v .fudged))) s (v .«chunks_at») ≡ o
+by-record v w s e h = rw e h
 
--- the profile's record and the chunks that were parsed for it
 pub profiled : (layout : ℕ) (s : List ℕ) (at : ℕ) {v : Profile} {next : ℕ} → ok (v, next) ≡ readProfile layout at s → Profiled layout s at v next
-unfolding readProfile profile rest paired chunks parse located
+unfolding readProfile
 profiled layout s at {v} {next} e =
     let f = found 4 at (profile layout) (λ (p : Axis × List Chunk) (end : ℕ). (located layout at p, end)) s e in
-    let n : f .next ≡ next = sym (ap (λ (w : Profile × ℕ). w .1) (f .made)) in
-    let m : v ≡ located layout at (f .value) = ap (λ (w : Profile × ℕ). w .0) (f .made) in
-    let a = parts axis (rest layout) s at (f .there) in
-    let c = parts (chunks (isFudged layout) (a .first .peakCount)) (paired (a .first)) s (a .middle) (a .there) in
-    let w = within-parsed (leb 24 (left s at)) _ (sym (parse-sized 24 axis axis-sized s at) ∙ a .here) in
-    let i = within-parsed (leb (a .first .peakCount * 8) (left s (a .middle))) _ (c .here) in
-    let place : a .middle ≡ at + 24 = cc (w .1) in
-    let both : f .value ≡ (a .first, c .first) = cc (c .there) in
-    let end : c .middle ≡ f .next = cc (c .there) in
-    record {
-      value = f .value;
-      there = f .there ∙ ap (parsed (f .value)) n;
-      made = m;
-      chunked = chunked-of layout s at v (f .value) (a .first) (c .first) (a .middle) (c .middle) next m both place (end ∙ n) (i .1);
-    }
+    let there : parse (profile layout) s at ≡ parsed (f .value) next = f .there ∙ ap (parsed (f .value)) (sym (ap (λ (w : Profile × ℕ). w .1) (f .made))) in
+    let made : v ≡ located layout at (f .value) = ap (λ (w : Profile × ℕ). w .0) (f .made) in
+    record { value = f .value; there = there; made = made; chunked = by-record v (located layout at (f .value)) s made (profile-chunks layout s at there) }
+
+pub unprofiled : (layout : ℕ) (s : List ℕ) (at : ℕ) {n : ℕ} {carries : List ℕ} → refused n carries ≡ readProfile layout at s → RanOut 4 (profile layout) s at n carries
+unfolding readProfile
+unprofiled layout s at e = ran-out 4 at (profile layout) (λ (p : Axis × List Chunk) (end : ℕ). (located layout at p, end)) s e

@@ -18,7 +18,7 @@ use Rattle.parser.proofs.Fixed.{parse-stage, sized-word, sized-repeat, sized-ah
 use Rattle.parser.specs.Walk.{sum}
 use Rattle.parser.proofs.Walk.{tally, Tallied, tallied-more, tallied-short, tallied-all}
 use Rattle.profile.specs.Profile.{Head, head, headSize, Chunk, points, values, chunk}
-use Rattle.profile.specs.Judged.{judged}
+use Rattle.profile.specs.Judged.{fudgeAt, judged}
 use Rattle.profile.specs.declared.Judged.the-variants as judge
 
 pub head-sized : (fudged : Bool) → Sized (headSize fudged) (head fudged)
@@ -30,11 +30,7 @@ pub values-sized : (n : ℕ) → Sized (n * 4) (values n)
 unfolding values
 values-sized n = sized-ahead (n * 4) (n * 4) (repeat n (word 4)) (le-refl (n * 4)) (sized-repeat 4 (word 4) (sized-word 4) n)
 
--- the fudge of the chunk at a place, and the chunk itself, which has n values
-abbrev pub fudgeAt : Bool → List ℕ → ℕ → ℕ
-fudgeAt true s at = le (bytes s (at + 8) 4)
-fudgeAt false s at = 0
-
+-- the chunk at a place, which has n values
 abbrev pub chunkAt : Bool → List ℕ → ℕ → ℕ → Chunk
 chunkAt fudged s at n =
     record { firstBin = le (bytes s at 4); fudge = fudgeAt fudged s at; signal = each (λ i. le (bytes s (at + headSize fudged + i * 4) 4)) n }

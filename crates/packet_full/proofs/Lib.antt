@@ -1,0 +1,4 @@
+pub mod Writing
+pub mod Stages
+pub mod Answers
+pub mod Results

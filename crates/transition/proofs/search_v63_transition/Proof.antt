@@ -1,0 +1,71 @@
+-- `transition::search_v63_transition` meets its contract. The invariant: no place before j passed, so the search goes on from j.
+-- Assumes nothing.
+use mathlib.Core.Path.{_≡_, refl, sym, ap, _∙_}
+use Prim.Native.Nat.{_-_, _≤_}
+use native.Mathlib.Omega.{arith}
+use lib.ListN.{length}
+use Rattle.transition.specs.First.{first}
+use Rattle.transition.specs.Transition.{v63Test, v63At, searchV63Transition}
+use Rattle.transition.specs.declared.TransitionAnswer.the-variants.{None, Found}
+use Rattle.transition.proofs.Searches.{first-here, first-later, first-none}
+use borrow.Author.Needs.{needs}
+use Rattle.transition.proofs.search_v63_transition.Statement.{statement}
+use Rattle.transition.proofs.search_v63_transition.Tie as tie
+
+abbrev Inv-loop : tie.InvT-loop
+Inv-loop «data» target end j₀ j =
+    (8 ≤ j) × (searchV63Transition target «data» ≡ first (v63Test target «data») (λ at. Found (v63At «data» at)) None j (length «data» - 32))
+
+abbrev μ-loop : tie.MeasureT-loop
+μ-loop «data» target end j₀ j = end - j
+
+remaining-requires : tie.Need-remaining-requires Inv-loop μ-loop
+remaining-requires c κs = search needs
+
+loop-holds : tie.Need-loop-holds Inv-loop μ-loop
+unfolding searchV63Transition
+loop-holds c = (search needs, refl)
+
+v63-test-requires : tie.Need-v63-test-requires Inv-loop μ-loop
+v63-test-requires c κs = search needs
+
+v63-at-requires : tie.Need-v63-at-requires Inv-loop μ-loop
+v63-at-requires c κs = search needs
+
+returns : tie.Need-returns Inv-loop μ-loop
+returns c =
+    let t = c .before .before in
+    let l = t .before .before in
+    ap Found (c .v63-at .ensures)
+    ∙ sym (l .loop .inv .1 ∙ first-here _ _ _ _ _ (omega arith) (sym (t .v63-test .ensures) ∙ c .before .if1 .taken))
+
+add-j : tie.Need-add-j Inv-loop μ-loop
+add-j c = search needs
+
+loop-less : tie.Need-loop-less Inv-loop μ-loop
+loop-less c = search needs
+
+loop-again : tie.Need-loop-again Inv-loop μ-loop
+loop-again c =
+    let t = c .before in
+    let l = t .before .before in
+    (search needs, l .loop .inv .1 ∙ first-later _ _ _ _ _ (omega arith) (sym (t .v63-test .ensures) ∙ c .if1 .left))
+
+returns-2 : tie.Need-returns-2 Inv-loop μ-loop
+returns-2 c = sym (c .before .loop .inv .1 ∙ first-none _ _ _ _ _ (omega arith))
+
+pub search-v63-transition-spec : {M : Type 1} → statement M
+search-v63-transition-spec =
+    tie.close
+    (tie.spec
+    Inv-loop
+    μ-loop
+    remaining-requires
+    loop-holds
+    v63-test-requires
+    v63-at-requires
+    returns
+    add-j
+    loop-less
+    loop-again
+    returns-2)
