@@ -39,10 +39,10 @@ use Rattle.packet_full.specs.Judged.{andThen, findProfile, behindHeader,
 unfoldable pub keep : Axis × List Chunk → Parser Stored
 keep p = done (present p)
 
-behindStored : PacketHeader → Stored → Parser Packet
+unfoldable pub behindStored : PacketHeader → Stored → Parser Packet
 behindStored h p = peakList h >>= behindPeaks h p
 
-rest : PacketHeader → Parser Packet
+unfoldable pub rest : PacketHeader → Parser Packet
 rest h = stored h >>= behindStored h
 
 -- the profile

@@ -28,7 +28,7 @@ use Rattle.packet_skipping.specs.Skipping.{packetSkipping, handOut, read
 use Rattle.packet_skipping.specs.Judged.{handPlaces}
 
 -- what follows the peaks
-behind : PacketHeader × List Peak → Parser Packet
+unfoldable pub behind : PacketHeader × List Peak → Parser Packet
 behind p = behindPeaks (p .0) absent (p .1)
 
 module _ (lent : Lent) (s : List ℕ) (at : ℕ) where

@@ -8,8 +8,8 @@ use noise::NoiseAnswer;
 use noise::noise_at;
 use packet_header::HeaderAnswer;
 use packet_header::PacketHeader;
-use peaks::PeaksAnswer;
 use peak_list::read_peaks_only;
+use peaks::PeaksAnswer;
 
 // The fields of a header: the first three, and all.
 fn put_sizes(out: &mut [u8], n: usize, h: PacketHeader) -> usize {

@@ -85,15 +85,18 @@ module _ (layout : ℕ) (s : List ℕ) (at : ℕ) where
           rw (to-list, parse-bind (chunks (isFudged layout) count) (paired (axisAt s at count)) s (at + 24), counted, unlisted list j)
 
       pub whole-profile : (fudged : Bool) → fudged ≡ isFudged layout → (c : ChunkList) → judge.Chunks c ≡ judged (parse (repeat count (chunk fudged)) s (at + 24))
-          → ok (record {
-            «first_value» = le (bytes s at 8);
-            step = le (bytes s (at + 8) 8);
-            «peak_count» = count;
-            nbins = le (bytes s (at + 20) 4);
-            fudged = fudged;
-            «chunks_at» = at + 24;
-            points = c .points;
-          }, c .next)
+          → ok (
+            record {
+              «first_value» = le (bytes s at 8);
+              step = le (bytes s (at + 8) 8);
+              «peak_count» = count;
+              nbins = le (bytes s (at + 20) 4);
+              fudged = fudged;
+              «chunks_at» = at + 24;
+              points = c .points;
+            },
+            c .next,
+          )
           ≡ readProfile layout at s
       unfolding readProfile outcome rest list located paired parse
       whole-profile fudged f c i =

@@ -35,7 +35,7 @@ pub record Stands (p : Parser Packet) (s : List ℕ) (at : ℕ) (profile : Store
   pub resolutions : resolutionsOf v s ≡ packet .labels .resolutions
 
 -- what is made of the labels
-whole : PacketHeader → Stored → List Peak → Streams → Parser Packet
+unfoldable pub whole : PacketHeader → Stored → List Peak → Streams → Parser Packet
 whole h profile peaks l = done (record { header = h; profile = profile; peaks = peaks; labels = l })
 
 module _ (p : Parser Packet) (s : List ℕ) (at : ℕ) (h : PacketHeader) (profile : Stored) (peaks : List Peak) (list : PeakList) (v : PacketProfile)
@@ -73,6 +73,7 @@ module _ (p : Parser Packet) (s : List ℕ) (at : ℕ) (h : PacketHeader) (profi
         descriptors = sym (k .descriptors);
         resolutions = sym (k .resolutions);
       }
+
   pub found-behind : v ≡ describeProfile (h .layout) at profile → peaks ≡ peaksAt (list .wide) (itemSize (list .wide)) s (list .at) (list .count)
       → {places : Places} → ok places ≡ withLabels h v list s → Stands p s at profile places
   unfolding withLabels

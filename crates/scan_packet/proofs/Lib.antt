@@ -2,3 +2,4 @@ pub mod Lists
 pub mod Found
 pub mod Room
 pub mod Told
+pub mod LongerBytes

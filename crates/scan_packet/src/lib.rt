@@ -117,8 +117,20 @@ pub fn write_lists(
     let labels = places.labels;
     let stride = item_size(list.wide);
     write_peaks(run, list.at, stride, list.count, list.wide, mz, abundance);
-    copy_u32s(run, labels.descriptors_at, 4, labels.descriptors, descriptors);
-    copy_u32s(run, saturating_add(labels.unknown_at, 4), 4, labels.resolutions, resolutions);
+    copy_u32s(
+        run,
+        labels.descriptors_at,
+        4,
+        labels.descriptors,
+        descriptors,
+    );
+    copy_u32s(
+        run,
+        saturating_add(labels.unknown_at, 4),
+        4,
+        labels.resolutions,
+        resolutions,
+    );
 }
 
 // The answer's record.

@@ -45,9 +45,13 @@ returns c =
     let s = now (a .run) in
     let w = c .before .before .before .before .before .before .before .before .before .before .before .before .before .write-peaks .ensures in (
       w .0 ∙ stride-is (a .places) s (now (a .mz)) (c .before .before .before .before .before .before .before .before .before .before .before .before .before .before .before .before .item-size .ensures .0),
-      (w .1 ∙ stride-is-2 (a .places) s (now (a .abundance)) (c .before .before .before .before .before .before .before .before .before .before .before .before .before .before .before .before .item-size .ensures .0),
-      (c .before .before .before .before .before .before .before .copy-u32s .ensures,
-      c .before .before .copy-u32s2 .ensures ∙ behind-count-word (a .places) s (now (a .resolutions)) (omega arith) (c .before .before .before .before .saturating-add .ensures))),
+      (
+        w .1 ∙ stride-is-2 (a .places) s (now (a .abundance)) (c .before .before .before .before .before .before .before .before .before .before .before .before .before .before .before .before .item-size .ensures .0),
+        (
+          c .before .before .before .before .before .before .before .copy-u32s .ensures,
+          c .before .before .copy-u32s2 .ensures ∙ behind-count-word (a .places) s (now (a .resolutions)) (omega arith) (c .before .before .before .before .saturating-add .ensures),
+        ),
+      ),
     )
 
 pub write-lists-spec : {M : Type 1} → statement M
