@@ -2,7 +2,7 @@
 -- Assumes nothing.
 use mathlib.Core.Path.{_≡_, ap, _∙_}
 use Prim.Native.Nat.{ℕ, zero, suc, _+_, _*_, _-_, _≤_, _<_}
-use native.Mathlib.Nat.{add-zero, zero-add, zero-mul, le-refl}
+use native.Mathlib.Nat.{add-zero, zero-add, zero-mul}
 use native.Mathlib.Omega.{arith}
 use mathlib.Core.Bool.{true, false, cond}
 use mathlib.Core.List.{List}
@@ -14,7 +14,7 @@ use borrow.Author.Tests.{le-leb, lt-leb, le-ltb, lt-ltb}
 use Rattle.lists.proofs.Laws.{each-same, each-cons}
 use Rattle.parser.specs.Parser.{Parser, ahead, parsed, bytes, le, left, within, parse, repeat}
 use Rattle.parser.specs.Fixed.{Sized, value}
-use Rattle.parser.proofs.Fixed.{parse-stage, sized-ahead, sized-repeat, value-each}
+use Rattle.parser.proofs.Fixed.{parse-stage, sized-counted, value-each}
 use Rattle.peaks.specs.Peaks.{Peak, widenedBits, peak, peakAt, peaksAt}
 use Rattle.peaks.proofs.Columns.{length-peaks}
 use Rattle.flat.specs.Flat.{plausible, looksValid, accepted, passedOver, verdict, peaksFrom, attempt}
@@ -31,7 +31,7 @@ counted n = ahead (n * 8) (repeat n (peak false))
 
 pub counted-sized : (n : ℕ) → Sized (n * 8) (counted n)
 unfolding counted
-counted-sized n = sized-ahead (n * 8) (n * 8) (repeat n (peak false)) (le-refl (n * 8)) (sized-repeat 8 (peak false) peak-sized n)
+counted-sized n = sized-counted 8 (peak false) peak-sized n
 
 module _ (s : List ℕ) (place : ℕ) where
   counted-value : (n : ℕ) → value (counted n) s place 0 ≡ peaksAt false 8 s place n

@@ -7,12 +7,9 @@ use lib.IntN.{pos}
 use lib.Ieee.{Float, binary64, ofBits, ofInt, fin, lt, eq}
 use lib.ListN.{length}
 use Rattle.refusal.specs.Outcome.{Outcome, ok, refused}
-use Rattle.refusal.specs.Number.{toldRefusal}
 use Rattle.parser.specs.Parser.{Parser, done, seek, _>>=_, _>>_, checkCount, repeat}
 use Rattle.parser.specs.Call.{outcome, single}
 use Rattle.peaks.specs.Peaks.{Peak, peak, handOut}
-use Rattle.flat.specs.declared.FlatPeaks.{FlatPeaks}
-use Rattle.flat.specs.declared.FlatPeaks.the-variants as found
 
 -- where a record ends: the data's place and the cumulative end added, saturating
 abbrev pub recordEnd : ℕ → ℕ → ℕ
@@ -94,7 +91,3 @@ unfoldable pub findFlatPeaks : ℕ → ℕ → ℕ → List ℕ → Outcome (ℕ
 findFlatPeaks place cumEnd dataSize run =
     let end = recordEnd place cumEnd in
     outcome (single 4 end (flatPeaks end cumEnd dataSize) (λ a _. ofAccepted placeAndCount a)) run
-
-abbrev pub toldPeaks : FlatPeaks → Outcome (ℕ × ℕ)
-toldPeaks (found.At place count) = ok (place, count)
-toldPeaks (found.Refused r) = toldRefusal r

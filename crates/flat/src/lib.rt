@@ -5,11 +5,12 @@ ghost use Prim.Native.Nat.{_<_};
 ghost use lib.Ieee.{binary32, ofBits};
 ghost use lib.ListN.{length};
 ghost use Rattle.parser.specs.Parser.{parse};
-ghost use Rattle.peaks.specs.Peaks.{result, leaves};
-ghost use Rattle.flat.specs.Flat.{plausible, attempt, attempts, readFlatPeaks, findFlatPeaks, toldPeaks};
+ghost use Rattle.peaks.specs.Peaks.{result, leaves, toldPlace};
+ghost use Rattle.flat.specs.Flat.{plausible, attempt, attempts, readFlatPeaks, findFlatPeaks};
 ghost use Rattle.flat.specs.Judged.{judged};
 use floats::widened;
 use peaks::PeaksAnswer;
+use peaks::PeaksPlace;
 use peaks::hand_out;
 use reader::remaining;
 use reader::saturating_add;
@@ -17,12 +18,6 @@ use reader::saturating_sub;
 use reader::u32_at;
 use refusal::Part;
 use refusal::Refusal;
-
-// Where the first peak stands, and how many there are.
-pub enum FlatPeaks {
-    At { place: u64, count: u64 },
-    Refused(Refusal),
-}
 
 // What an attempt comes to.
 enum Judged {
@@ -73,20 +68,20 @@ fn judge_attempts(run: &[u8], end: u64, cum_end: u64, data_size: u32) -> Judged
 }
 
 // The peaks of a record, found and not handed out. Each takes 8 bytes.
-pub fn find_flat_peaks(run: &[u8], data: u64, cum_end: u64, data_size: u32) -> FlatPeaks
-    ensures { λ r. ⌜ toldPeaks r ≡ findFlatPeaks «data» «cum_end» «data_size» (now (run .entry)) ⌝ }
+pub fn find_flat_peaks(run: &[u8], data: u64, cum_end: u64, data_size: u32) -> PeaksPlace
+    ensures { λ r. ⌜ toldPlace r ≡ findFlatPeaks «data» «cum_end» «data_size» (now (run .entry)) ⌝ }
 {
     let end = saturating_add(data, cum_end);
     if data_size <= 1 {
-        return FlatPeaks::At {
+        return PeaksPlace::At {
             place: end,
             count: 0,
         };
     }
     match judge_attempts(run, end, cum_end, data_size) {
-        Judged::Accepted { place, count } => FlatPeaks::At { place, count },
-        Judged::PassedOver => FlatPeaks::Refused(Refusal::UnrecognizedScanRecord),
-        Judged::RanOut => FlatPeaks::Refused(Refusal::Short(Part::Data)),
+        Judged::Accepted { place, count } => PeaksPlace::At { place, count },
+        Judged::PassedOver => PeaksPlace::Refused(Refusal::UnrecognizedScanRecord),
+        Judged::RanOut => PeaksPlace::Refused(Refusal::Short(Part::Data)),
     }
 }
 
@@ -101,7 +96,7 @@ pub fn read_flat_peaks(
     ensures { λ r. ⌜ result r (now (mz .exit)) (now (abundance .exit)) ≡ leaves (readFlatPeaks (length (now (mz .entry))) (length (now (abundance .entry))) «data» «cum_end» «data_size» (now (run .entry))) (now (mz .entry)) (now (abundance .entry)) ⌝ }
 {
     match find_flat_peaks(run, data, cum_end, data_size) {
-        FlatPeaks::Refused(r) => PeaksAnswer::Refused(r),
-        FlatPeaks::At { place, count } => hand_out(run, place, 8, count, false, mz, abundance),
+        PeaksPlace::Refused(r) => PeaksAnswer::Refused(r),
+        PeaksPlace::At { place, count } => hand_out(run, place, 8, count, false, mz, abundance),
     }
 }

@@ -3,7 +3,7 @@
 use mathlib.Core.Path.{_≡_, refl, ap, sym, subst, _∙_}
 use mathlib.Core.Logic.{⊎-elim}
 use Prim.Native.Nat.{ℕ, _+_, _*_, _-_, _/_, _≤_, _<_}
-use native.Mathlib.Nat.{add-zero, zero-add, add-assoc, le-refl}
+use native.Mathlib.Nat.{add-zero, zero-add, add-assoc}
 use native.Mathlib.Omega.{arith}
 use mathlib.Core.Bool.{Bool, true, false, _&&_, cond}
 use mathlib.Core.List.{List, []}
@@ -15,12 +15,12 @@ use Rattle.lists.proofs.Cases.{bool-cases, and-true}
 use Rattle.lists.proofs.Laws.{each-none, each-same, length-each}
 use Rattle.parser.specs.Parser.{Parser, done, bytes, le, raw, word, skip, repeat, _>>=_, _>>_}
 use Rattle.parser.specs.Fixed.{Sized, value}
-use Rattle.parser.proofs.Fixed.{sized-raw, sized-word, sized-bind, sized-repeat, sized-ahead, sized-cond, value-each}
+use Rattle.parser.proofs.Fixed.{sized-raw, sized-word, sized-bind, sized-ahead, sized-cond, sized-counted, value-each}
 use Rattle.labels.specs.Labels.{words, passed, isKept, keptCount, descriptors, resolutions, triplets}
 
 words-sized : (n : ℕ) → Sized (n * 4) (words n)
 unfolding words
-words-sized n = sized-ahead (n * 4) (n * 4) (repeat n (word 4)) (le-refl (n * 4)) (sized-repeat 4 (word 4) (sized-word 4) n)
+words-sized n = sized-counted 4 (word 4) (sized-word 4) n
 
 words-value : (n : ℕ) (s : List ℕ) (at off : ℕ) → value (words n) s at off ≡ each (λ i. le (bytes s (at + off + i * 4) 4)) n
 unfolding words

@@ -33,11 +33,11 @@ abbrev pub Avoids : {A : Type 0} → ℕ → Call A → Type 0
 Avoids p (answer o) = Settled o
 Avoids p (part {B} q at parser k) = (q ≡ p → ⊥) × ((b : B) (next : ℕ) → Avoids p (k b next))
 
--- at most one part of the call has this number, and its parser is bounded
+-- at most one part of the call has this number, and its parser is bounded, if it starts below 2^62
 abbrev pub Covers : {A : Type 0} → ℕ → Call A → Type 0
 Covers p (answer o) = Settled o
 Covers p (part {B} q at parser k) =
-    ((q ≡ p) × Bounded (2 ^ 62) (2 ^ 62 - 1) parser × ((b : B) (next : ℕ) → Avoids p (k b next)))
+    ((q ≡ p) × (at < 2 ^ 62 → Bounded (2 ^ 62) (2 ^ 62 - 1) parser) × ((b : B) (next : ℕ) → Avoids p (k b next)))
     ⊎ ((q ≡ p → ⊥) × ((b : B) (next : ℕ) → Covers p (k b next)))
 
 -- on the bytes s the part starts below 2^62
@@ -72,7 +72,7 @@ module _ {A : Type 0} where
   completes-by-zeros p (answer o) s v l isBytes few h = not-ran-out o p v
   completes-by-zeros p (part {B} q at parser k) s v l isBytes few h =
       ⊎-elim
-      (λ w. here (w .2) (completes (2 ^ 62) (2 ^ 62 - 1) parser (w .1) s at isBytes (omega arith) (omega (arith, l .0 (w .0)))) (parse parser t at) refl)
+      (λ w. here (w .2) (completes (2 ^ 62) (2 ^ 62 - 1) parser (w .1 (l .0 (w .0))) s at isBytes (omega arith) (omega (arith, l .0 (w .0)))) (parse parser t at) refl)
       (λ w. later (w .0) (λ b next r. completes-by-zeros p (k b next) s (w .1 b next) (l .1 b next r) isBytes few) (parse parser s at) refl h)
       v
     where
@@ -103,4 +103,4 @@ module _ {A : Type 0} where
   pub single-completes : {B : Type 0} (number at : ℕ) (p : Parser B) (f : B → ℕ → Outcome A) → Bounded (2 ^ 62) (2 ^ 62 - 1) p
       → ((b : B) (next : ℕ) → Settled (f b next)) → Completes number at (outcome (single number at p f))
   single-completes number at p f bounded settled s isBytes few low =
-      completion number (single number at p f) s (inl (refl, bounded, settled)) ((λ _. low), λ _ _ _. tt) isBytes few
+      completion number (single number at p f) s (inl (refl, (λ _. bounded), settled)) ((λ _. low), λ _ _ _. tt) isBytes few

@@ -2,7 +2,7 @@
 -- Assumes nothing.
 use mathlib.Core.Path.{_≡_, refl, ap, sym, _∙_}
 use Prim.Native.Nat.{ℕ, _+_, _*_, _-_, _≤_, _<_}
-use native.Mathlib.Nat.{add-zero, zero-add, add-assoc, le-refl}
+use native.Mathlib.Nat.{add-zero, zero-add, add-assoc}
 use native.Mathlib.Omega.{arith}
 use mathlib.Core.Bool.{Bool, true, false}
 use mathlib.Core.List.{List, []}
@@ -18,7 +18,7 @@ use Rattle.parser.specs.Call.{outcome}
 use Rattle.parser.specs.Fixed.{Sized, value}
 use Rattle.lists.proofs.Cases.{bool-cases}
 use Rattle.parser.proofs.Prefix.{within-parsed}
-use Rattle.parser.proofs.Fixed.{parse-sized, parse-stage, sized-word, sized-repeat, sized-ahead, value-each}
+use Rattle.parser.proofs.Fixed.{parse-sized, parse-stage, sized-word, sized-counted, value-each}
 use Rattle.packet_header.specs.declared.PacketHeader.{PacketHeader}
 use Rattle.peaks.specs.Peaks.{Peak, peak, peakAt, peaksAt}
 use Rattle.peaks.proofs.Columns.{length-peaks}
@@ -37,7 +37,7 @@ peak-value false s at off = rw (add-assoc at off 4)
 
 pub counted-sized : (wide : Bool) (n : ℕ) → Sized (n * itemSize wide) (counted wide n)
 unfolding counted
-counted-sized wide n = sized-ahead (n * itemSize wide) (n * itemSize wide) (repeat n (peak wide)) (le-refl (n * itemSize wide)) (sized-repeat (itemSize wide) (peak wide) (peak-sized wide) n)
+counted-sized wide n = sized-counted (itemSize wide) (peak wide) (peak-sized wide) n
 
 module _ (wide : Bool) (s : List ℕ) where
   counted-value : (n at : ℕ) → value (counted wide n) s at 0 ≡ peaksAt wide (itemSize wide) s at n

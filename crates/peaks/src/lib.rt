@@ -21,6 +21,12 @@ pub enum PeaksAnswer {
     Refused(Refusal),
 }
 
+// Where the m/z of the first of some peaks stands, and how many there are.
+pub enum PeaksPlace {
+    At { place: u64, count: u64 },
+    Refused(Refusal),
+}
+
 fn widened_bits(bits: u32) -> u64
     ensures { λ r. ⌜ r ≡ widenedBits bits ⌝ }
 {

@@ -2,7 +2,7 @@
 -- Assumes nothing.
 use mathlib.Core.Path.{_≡_, refl, ap, sym, _∙_}
 use Prim.Native.Nat.{ℕ, _+_, _*_, _-_, _≤_, _<_}
-use native.Mathlib.Nat.{add-zero, zero-add, add-assoc, le-refl}
+use native.Mathlib.Nat.{add-zero, zero-add, add-assoc}
 use native.Mathlib.Omega.{arith}
 use mathlib.Core.Bool.{Bool, true, false}
 use mathlib.Core.List.{List}
@@ -14,7 +14,7 @@ use Rattle.lists.proofs.Laws.{each-same, length-each}
 use Rattle.parser.specs.Parser.{Parser, Parsed, short, parsed, done, bytes, le, left, within, parse, word, repeat, _>>=_}
 use Rattle.parser.specs.Fixed.{Sized, value}
 use Rattle.parser.proofs.Prefix.{within-parsed}
-use Rattle.parser.proofs.Fixed.{parse-stage, sized-word, sized-repeat, sized-ahead, value-each}
+use Rattle.parser.proofs.Fixed.{parse-stage, sized-word, sized-counted, value-each}
 use Rattle.parser.specs.Walk.{sum}
 use Rattle.parser.proofs.Walk.{tally, Tallied, tallied-more, tallied-short, tallied-all}
 use Rattle.profile.specs.Profile.{Head, head, headSize, Chunk, points, values, chunk}
@@ -28,7 +28,7 @@ head-sized false = λ _ _. tt
 
 pub values-sized : (n : ℕ) → Sized (n * 4) (values n)
 unfolding values
-values-sized n = sized-ahead (n * 4) (n * 4) (repeat n (word 4)) (le-refl (n * 4)) (sized-repeat 4 (word 4) (sized-word 4) n)
+values-sized n = sized-counted 4 (word 4) (sized-word 4) n
 
 -- the chunk at a place, which has n values
 abbrev pub chunkAt : Bool → List ℕ → ℕ → ℕ → Chunk

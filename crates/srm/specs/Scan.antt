@@ -10,8 +10,6 @@ use Rattle.lists.specs.Written.{over}
 use Rattle.parser.specs.Parser.{Parser, done, _>>=_, _>>_, word, skip, checkCount, repeat}
 use Rattle.parser.specs.Call.{outcome, single}
 use Rattle.peaks.specs.Peaks.{Peak, peak, handOut}
-use Rattle.srm.specs.declared.SrmPeaks.{SrmPeaks}
-use Rattle.srm.specs.declared.SrmPeaks.the-variants as found
 use Rattle.srm.specs.declared.WindowsAnswer.{WindowsAnswer}
 use Rattle.srm.specs.declared.WindowsAnswer.the-variants as answer
 
@@ -47,10 +45,6 @@ readScan mz abundance place offset run = outcome (single 4 (start place offset) 
 unfoldable pub findPeaks : ℕ → ℕ → List ℕ → Outcome (ℕ × ℕ)
 findPeaks place offset run =
     outcome (single 4 (start place offset) (scan peaks) (λ ps _. ok (start place offset + 36 + length ps * 8, length ps))) run
-
-abbrev pub toldPeaks : SrmPeaks → Outcome (ℕ × ℕ)
-toldPeaks (found.At place count) = ok (place, count)
-toldPeaks (found.Refused r) = toldRefusal r
 
 -- a window: the bits of its lower and of its upper end, two f32
 abbrev pub Window : Type 0

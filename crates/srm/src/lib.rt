@@ -3,11 +3,12 @@
 ghost use mathlib.Core.Path.{_≡_};
 ghost use Prim.Native.Nat.{_+_, _≤_};
 ghost use lib.ListN.{length};
-ghost use Rattle.peaks.specs.Peaks.{result, leaves};
-ghost use Rattle.srm.specs.Scan.{readScan, findPeaks, toldPeaks, handOutWindows, readWindows};
+ghost use Rattle.peaks.specs.Peaks.{result, leaves, toldPlace};
+ghost use Rattle.srm.specs.Scan.{readScan, findPeaks, handOutWindows, readWindows};
 ghost use Rattle.srm.specs.Scan.{result as resultOf, leaves as leavesOf};
 ghost use Rattle.srm.specs.Channels.{channels, toldChannels, windowsAt};
 use peaks::PeaksAnswer;
+use peaks::PeaksPlace;
 use peaks::hand_out;
 use reader::copy_u32s;
 use reader::remaining;
@@ -15,12 +16,6 @@ use reader::saturating_add;
 use reader::u32_at;
 use refusal::Part;
 use refusal::Refusal;
-
-// Where the first m/z stands, and how many peaks there are.
-pub enum SrmPeaks {
-    At { place: u64, count: u64 },
-    Refused(Refusal),
-}
 
 // How many windows there are.
 pub enum WindowsAnswer {
@@ -54,13 +49,13 @@ fn count_channels(run: &[u8], at: u64, size: u64) -> Channels
 }
 
 // The peaks of a scan, found and not handed out. Each m/z stands 12 bytes behind the one before, its abundance right behind it.
-pub fn find_srm_peaks(run: &[u8], data: u64, offset: u64) -> SrmPeaks
-    ensures { λ r. ⌜ toldPeaks r ≡ findPeaks «data» offset (now (run .entry)) ⌝ }
+pub fn find_srm_peaks(run: &[u8], data: u64, offset: u64) -> PeaksPlace
+    ensures { λ r. ⌜ toldPlace r ≡ findPeaks «data» offset (now (run .entry)) ⌝ }
 {
     let at = saturating_add(data, offset);
     match count_channels(run, at, 20) {
-        Channels::Refused(r) => SrmPeaks::Refused(r),
-        Channels::Count(n) => SrmPeaks::At {
+        Channels::Refused(r) => PeaksPlace::Refused(r),
+        Channels::Count(n) => PeaksPlace::At {
             place: at + 36 + n * 8,
             count: n,
         },
@@ -77,8 +72,8 @@ pub fn read_scan_srm_v66(
     ensures { λ r. ⌜ result r (now (mz .exit)) (now (abundance .exit)) ≡ leaves (readScan (length (now (mz .entry))) (length (now (abundance .entry))) «data» offset (now (run .entry))) (now (mz .entry)) (now (abundance .entry)) ⌝ }
 {
     match find_srm_peaks(run, data, offset) {
-        SrmPeaks::Refused(r) => PeaksAnswer::Refused(r),
-        SrmPeaks::At { place, count } => hand_out(run, place, 12, count, false, mz, abundance),
+        PeaksPlace::Refused(r) => PeaksAnswer::Refused(r),
+        PeaksPlace::At { place, count } => hand_out(run, place, 12, count, false, mz, abundance),
     }
 }
 

@@ -5,7 +5,7 @@ use denote.Ref.{now}
 use lib.ListN.{length}
 use Rattle.peaks.specs.Peaks.{leaves}
 use Rattle.peaks.proofs.Results.{refused-result}
-use Rattle.srm.specs.Scan.{toldPeaks}
+use Rattle.peaks.specs.Peaks.{toldPlace}
 use Rattle.srm.proofs.Answers.{read-found, read-refused}
 use borrow.Author.Needs.{needs}
 use Rattle.srm.proofs.read_scan_srm_v66.Statement.{statement}
@@ -27,7 +27,7 @@ returns : tie.Need-returns
 returns c =
     let a = c .before .before .before .before .before .before .before .args in
     refused-result _ (now (a .mz)) (now (a .abundance)) (c .before .r .given .0 .0)
-    (read-refused (a .«data») (a .offset) (now (a .run)) (length (now (a .mz))) (length (now (a .abundance))) (sym (ap toldPeaks (c .before .r .given .1)) ∙ c .before .before .before .find-srm-peaks .ensures))
+    (read-refused (a .«data») (a .offset) (now (a .run)) (length (now (a .mz))) (length (now (a .abundance))) (sym (ap toldPlace (c .before .r .given .1)) ∙ c .before .before .before .find-srm-peaks .ensures))
 
 same-length : tie.Need-same-length
 same-length c = search needs
@@ -41,7 +41,7 @@ returns-2 c =
     let g = c .before .before .before .before .before .before .before .before .place .given in
     c .before .before .before .before .hand-out .ensures
     ∙ ap (λ o. leaves o (now (a .mz)) (now (a .abundance)))
-    (read-found (a .«data») (a .offset) (now (a .run)) (length (now (a .mz))) (length (now (a .abundance))) (g .0 .0) (g .0 .1 .0) (sym (ap toldPeaks (g .1)) ∙ c .before .before .before .before .before .before .before .before .before .before .find-srm-peaks .ensures))
+    (read-found (a .«data») (a .offset) (now (a .run)) (length (now (a .mz))) (length (now (a .abundance))) (g .0 .0) (g .0 .1 .0) (sym (ap toldPlace (g .1)) ∙ c .before .before .before .before .before .before .before .before .before .before .find-srm-peaks .ensures))
 
 pub read-scan-srm-v66-spec : {M : Type 1} → statement M
 read-scan-srm-v66-spec =
