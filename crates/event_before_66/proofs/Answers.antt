@@ -7,7 +7,7 @@ use lib.Dec.{leb}
 use borrow.Author.Tests.{le-leb, lt-leb}
 use Rattle.refusal.specs.Outcome.{ranOut}
 use Rattle.lists.specs.Written.{each}
-use Rattle.parser.specs.Parser.{Parser, done, parsed, within, parse, bytes, le, left, _>>=_}
+use Rattle.parser.specs.Parser.{Parser, done, short, parsed, within, parse, bytes, le, left, _>>=_}
 use Rattle.parser.specs.Call.{outcome}
 use Rattle.parser.proofs.Fixed.{parse-stage}
 use Rattle.preamble.specs.Size.{sizeForVersion}
@@ -55,19 +55,17 @@ module _ (s : List ℕ) where
       parse-stage (m .count * 8 + 8) (tail (m .count)) (λ coefficients. done (event preamble m coefficients)) (tail-sized (m .count)) s at
       ∙ rw (tail-value s (m .count) at)
 
--- the answer, by how far the bytes reach
-module _ (version : ℕ) (lent : Lent) (s : List ℕ) (at : ℕ) where
-  pub short-head : left s at < sizeForVersion version + 4 → ranOut 3 ≡ readBefore66 version lent at s
-  unfolding readBefore66 outcome
-  short-head t = rw (parse-head s version at, lt-leb _ _ t)
+-- what is parsed, by how far the bytes reach
+module _ (version : ℕ) (s : List ℕ) (at : ℕ) where
+  pub parse-short-head : left s at < sizeForVersion version + 4 → parse (before66 version) s at ≡ short
+  parse-short-head t = rw (parse-head s version at, lt-leb _ _ t)
 
   module _ (z : Sizes) (size : z .preamble ≡ sizeForVersion version) (t : z .preamble + 4 ≤ left s at) (reactions : z .reactions ≡ le (bytes s (at + z .preamble) 4)) where
     to-middle : parse (before66 version) s at ≡ parse (rest (bytes s at (z .preamble), z .reactions)) s (reactionsAt at z)
     to-middle = parse-head s version at ∙ rw (← size, le-leb _ _ t, ← reactions)
 
-    pub short-middle : left s (reactionsAt at z) < z .reactions * 32 + 24 → ranOut 3 ≡ readBefore66 version lent at s
-    unfolding readBefore66 outcome
-    short-middle u = rw (to-middle, parse-middle s (bytes s at (z .preamble)) (z .reactions) (reactionsAt at z), lt-leb _ _ u)
+    pub parse-short-middle : left s (reactionsAt at z) < z .reactions * 32 + 24 → parse (before66 version) s at ≡ short
+    parse-short-middle u = rw (to-middle, parse-middle s (bytes s at (z .preamble)) (z .reactions) (reactionsAt at z), lt-leb _ _ u)
 
     module _ (u : z .reactions * 32 + 24 ≤ left s (reactionsAt at z)) (coefficients : z .coefficients ≡ le (bytes s (reactionsAt at z + z .reactions * 32 + 20) 4)) where
       to-tail : parse (before66 version) s at
@@ -78,14 +76,33 @@ module _ (version : ℕ) (lent : Lent) (s : List ℕ) (at : ℕ) where
       unfolding middleAt
       counted = coefficients
 
-      pub short-tail : left s (coefficientsAt at z) < z .coefficients * 8 + 8 → ranOut 3 ≡ readBefore66 version lent at s
-      unfolding readBefore66 outcome
-      short-tail v =
+      pub parse-short-tail : left s (coefficientsAt at z) < z .coefficients * 8 + 8 → parse (before66 version) s at ≡ short
+      parse-short-tail v =
           let m = middleAt s (z .reactions) (reactionsAt at z) in
           rw (to-tail, parse-tail s (bytes s at (z .preamble)) m (coefficientsAt at z), ← counted, lt-leb _ _ v)
 
-      pub whole : z .coefficients * 8 + 8 ≤ left s (coefficientsAt at z) → handOut lent (eventAt at z s) (end at z) ≡ readBefore66 version lent at s
-      unfolding readBefore66 outcome eventAt middleAt
-      whole v =
+      pub parse-whole : z .coefficients * 8 + 8 ≤ left s (coefficientsAt at z) → parse (before66 version) s at ≡ parsed (eventAt at z s) (end at z)
+      unfolding eventAt middleAt
+      parse-whole v =
           let m = middleAt s (z .reactions) (reactionsAt at z) in
           rw (to-tail, parse-tail s (bytes s at (z .preamble)) m (coefficientsAt at z), ← counted, le-leb _ _ v)
+
+-- so the answer
+module _ (version : ℕ) (lent : Lent) (s : List ℕ) (at : ℕ) where
+  pub short-head : left s at < sizeForVersion version + 4 → ranOut 3 ≡ readBefore66 version lent at s
+  unfolding readBefore66 outcome
+  short-head t = rw (parse-short-head version s at t)
+
+  module _ (z : Sizes) (size : z .preamble ≡ sizeForVersion version) (t : z .preamble + 4 ≤ left s at) (reactions : z .reactions ≡ le (bytes s (at + z .preamble) 4)) where
+    pub short-middle : left s (reactionsAt at z) < z .reactions * 32 + 24 → ranOut 3 ≡ readBefore66 version lent at s
+    unfolding readBefore66 outcome
+    short-middle u = rw (parse-short-middle version s at z size t reactions u)
+
+    module _ (u : z .reactions * 32 + 24 ≤ left s (reactionsAt at z)) (coefficients : z .coefficients ≡ le (bytes s (reactionsAt at z + z .reactions * 32 + 20) 4)) where
+      pub short-tail : left s (coefficientsAt at z) < z .coefficients * 8 + 8 → ranOut 3 ≡ readBefore66 version lent at s
+      unfolding readBefore66 outcome
+      short-tail v = rw (parse-short-tail version s at z size t reactions u coefficients v)
+
+      pub whole : z .coefficients * 8 + 8 ≤ left s (coefficientsAt at z) → handOut lent (eventAt at z s) (end at z) ≡ readBefore66 version lent at s
+      unfolding readBefore66 outcome
+      whole v = rw (parse-whole version s at z size t reactions u coefficients v)

@@ -24,10 +24,10 @@ use scan_event::has_room;
 use window::Window;
 
 // The preamble's length, and the two counts.
-struct Sizes {
-    preamble: u64,
-    reactions: u64,
-    coefficients: u64,
+pub struct Sizes {
+    pub preamble: u64,
+    pub reactions: u64,
+    pub coefficients: u64,
 }
 
 // The event's lists, over the fronts of the lent slices.

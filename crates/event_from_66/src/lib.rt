@@ -140,7 +140,8 @@ fn hand_out(
     EventAnswer::Refused(Refusal::NoRoom)
 }
 
-fn body_size(primary: bool, body_primary: u32, body_dependent: u32) -> u64
+// The size of an event's body.
+pub fn body_size(primary: bool, body_primary: u32, body_dependent: u32) -> u64
     ensures { λ r. ⌜ (r ≡ cond primary «body_primary» «body_dependent») × (r < 4294967296) ⌝ }
 {
     if primary {

@@ -12,10 +12,9 @@ use Rattle.lists.proofs.Laws.{length-each, length-over, over-none, over-tail, s
 use Rattle.parser.specs.Parser.{parsed, bytes, le, left, parse, repeat}
 use Rattle.parser.specs.Walk.{sum}
 use Rattle.parser.proofs.Walk.{FirstOf, first-of}
-use Rattle.profile.specs.Profile.{headSize, Chunk, points, chunk}
+use Rattle.profile.specs.Profile.{headSize, Chunk, points, chunk, fudgeAt}
 use Rattle.profile.proofs.Chunks.{Whole, whole-chunk, chunkAt}
 use Rattle.packet_full.specs.Full.{columns, signals}
-use Rattle.profile.specs.Judged.{fudgeAt}
 
 -- a column of the chunks that are done, over the front of its slice
 pub record Column (f : Chunk → ℕ) (done : List Chunk) (xs X : List ℕ) : Type 0 where

@@ -4,7 +4,6 @@ ghost use Prim.Native.Nat.{_≤_};
 ghost use lib.ListN.{length};
 ghost use Rattle.lists.specs.Written.{over};
 ghost use Rattle.parser.specs.Parser.{left};
-ghost use Rattle.profile.specs.Judged.{fudgeAt};
 ghost use Rattle.scan_packet.specs.Places.{toldPlaces};
 ghost use Rattle.packet_full.specs.Full.{columns, chunkRoom, readPacket, result, resultOf};
 ghost use Rattle.packet_full.specs.Judged.{findProfile, toldProfile, behindHeader, findPlaces, ChunksThere, HasChunks, ProfileThere, chunkList, chunksAt, chunkCount, pointCount, placesRoom, handPlaces};
@@ -14,9 +13,9 @@ use peak_list::PeakListAnswer;
 use peak_list::read_peaks;
 use profile::Profile;
 use profile::ProfileAnswer;
+use profile::fudge_at;
 use profile::head_size;
 use reader::copy_u32s;
-use reader::saturating_add;
 use reader::u32_at;
 use refusal::Refusal;
 use scan_packet::Lent;
@@ -78,17 +77,6 @@ fn find_places(run: &[u8], at: u64) -> PlacesAnswer
     match PacketHeader::read(run, at) {
         HeaderAnswer::Refused(r) => PlacesAnswer::Refused(r),
         HeaderAnswer::Header(h) => behind_header(run, at, h),
-    }
-}
-
-// The fudge of the chunk at a place.
-fn fudge_at(run: &[u8], at: u64, fudged: bool) -> u32
-    ensures { λ r. ⌜ r ≡ fudgeAt fudged (now (run .entry)) at ⌝ }
-{
-    if fudged {
-        u32_at(run, saturating_add(at, 8))
-    } else {
-        0
     }
 }
 

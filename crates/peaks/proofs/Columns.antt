@@ -5,6 +5,9 @@ use Prim.Native.Nat.{ℕ, _+_, _*_, _-_, _^_, _≤_, _<_, min}
 use native.Mathlib.Omega.{arith}
 use mathlib.Core.Bool.{Bool, true, false}
 use mathlib.Core.List.{List, map}
+use lib.Ieee.{binary32, binary64, ofBits}
+use lib.Ieee.Fits.{fits-widens}
+use lib.Ieee.Bits.{ofBits-toBits, ofBits-fits}
 use lib.ListN.{length, length-map}
 use Rattle.lists.specs.Written.{each}
 use Rattle.lists.proofs.Laws.{each-same, map-each, length-each}
@@ -37,6 +40,10 @@ module _ (stride : ℕ) (s : List ℕ) (at n : ℕ) where
     pub narrow-abundances : p ≡ min (at + 4) (2 ^ 64 - 1) → each (λ i. le (bytes s (p + i * stride) 4)) n ≡ abundances (peaksAt false stride s at n)
     unfolding peaksAt
     narrow-abundances e = rw map-each (each-same _ _ n (behind 4 e))
+
+-- an f32 that was widened is the same number
+pub widened-same : (b : ℕ) → ofBits binary64 (widenedBits b) ≡ ofBits binary32 b
+widened-same b = ofBits-toBits binary64 (ofBits binary32 b) (fits-widens (ofBits binary32 b) (ofBits-fits binary32 b))
 
 pub length-peaks : (wide : Bool) (stride : ℕ) (s : List ℕ) (at n : ℕ) → length (peaksAt wide stride s at n) ≡ n
 unfolding peaksAt

@@ -17,8 +17,8 @@ use Rattle.parser.proofs.Prefix.{within-parsed}
 use Rattle.parser.proofs.Fixed.{parse-stage, sized-word, sized-counted, value-each}
 use Rattle.parser.specs.Walk.{sum}
 use Rattle.parser.proofs.Walk.{tally, Tallied, tallied-more, tallied-short, tallied-all}
-use Rattle.profile.specs.Profile.{Head, head, headSize, Chunk, points, values, chunk}
-use Rattle.profile.specs.Judged.{fudgeAt, judged}
+use Rattle.profile.specs.Profile.{Head, head, headSize, Chunk, points, values, chunk, fudgeAt}
+use Rattle.profile.specs.Judged.{judged}
 use Rattle.profile.specs.declared.Judged.the-variants as judge
 
 pub head-sized : (fudged : Bool) → Sized (headSize fudged) (head fudged)

@@ -6,7 +6,7 @@ use lib.Dec.{eqb}
 use lib.ListN.{length}
 use Rattle.refusal.specs.Outcome.{Outcome, ok}
 use Rattle.refusal.specs.Number.{toldRefusal}
-use Rattle.parser.specs.Parser.{Parser, done, _>>=_, _>>_, word, checkCount, repeat}
+use Rattle.parser.specs.Parser.{Parser, done, _>>=_, _>>_, bytes, le, word, checkCount, repeat}
 use Rattle.parser.specs.Walk.{sum}
 use Rattle.parser.specs.Call.{outcome, single}
 use Rattle.profile.specs.declared.Profile.{Profile}
@@ -57,6 +57,11 @@ chunk fudged = do
   h ← head fudged
   signal ← values (h .count)
   done (record { firstBin = h .firstBin; fudge = h .fudge; signal = signal })
+
+-- the fudge of the chunk at a place
+abbrev pub fudgeAt : Bool → List ℕ → ℕ → ℕ
+fudgeAt true s at = le (bytes s (at + 8) 4)
+fudgeAt false s at = 0
 
 -- what stands before the chunks: the bits of two f64, and two counts
 pub record Axis : Type 0 where

@@ -2,9 +2,10 @@
 ghost use mathlib.Core.Path.{_≡_};
 ghost use Prim.Native.Nat.{_≤_};
 ghost use Rattle.parser.specs.Parser.{parse, repeat};
-ghost use Rattle.profile.specs.Profile.{isFudged, headSize, chunk, readProfile, told};
+ghost use Rattle.profile.specs.Profile.{isFudged, headSize, chunk, fudgeAt, readProfile, told};
 ghost use Rattle.profile.specs.Judged.{judged};
 use reader::remaining;
+use reader::saturating_add;
 use reader::u32_at;
 use reader::u64_at;
 use refusal::Part;
@@ -55,6 +56,17 @@ pub fn head_size(fudged: bool) -> u64
     ensures { λ r. ⌜ r ≤ 12 ⌝ }
 {
     if fudged { 12 } else { 8 }
+}
+
+// The fudge of the chunk at a place. Where there is none, it has the bits of 0.0.
+pub fn fudge_at(run: &[u8], at: u64, fudged: bool) -> u32
+    ensures { λ r. ⌜ r ≡ fudgeAt fudged (now (run .entry)) at ⌝ }
+{
+    if fudged {
+        u32_at(run, saturating_add(at, 8))
+    } else {
+        0
+    }
 }
 
 // Each chunk passed is there, so a stored count of 2^32 - 1 costs no more turns than the run has chunks.

@@ -1,4 +1,4 @@
--- `packet_full::fudge_at` meets its contract.
+-- `profile::fudge_at` meets its contract.
 -- Assumes nothing.
 use mathlib.Core.Path.{ap, _∙_}
 use Prim.Native.Nat.{_+_}
@@ -7,8 +7,8 @@ use denote.Ref.{now}
 use Rattle.parser.specs.Parser.{bytes, le}
 use Rattle.reader.proofs.Words.{le-saturated}
 use borrow.Author.Needs.{needs}
-use Rattle.packet_full.proofs.fudge_at.Statement.{statement}
-use Rattle.packet_full.proofs.fudge_at.Tie as tie
+use Rattle.profile.proofs.fudge_at.Statement.{statement}
+use Rattle.profile.proofs.fudge_at.Tie as tie
 
 saturating-add-requires : tie.Need-saturating-add-requires
 saturating-add-requires c κs = search needs

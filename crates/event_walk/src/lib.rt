@@ -1,0 +1,89 @@
+// Events that follow one another in a run: where one ends, and where the k-th starts. Nothing is handed out of them.
+ghost use mathlib.Core.Path.{_≡_};
+ghost use Rattle.event_walk.specs.Walk.{eventEnd, eventPlace, told};
+ghost use Rattle.event_walk.specs.Layouts.{endBefore66, endFrom66};
+use event_from_66::body_size;
+use preamble::is_primary;
+use preamble::size_for_version;
+use reader::remaining;
+use reader::u32_at;
+use refusal::Part;
+use refusal::Refusal;
+
+// A place behind events that are there.
+pub enum EventPlace {
+    At(u64),
+    Refused(Refusal),
+}
+
+fn end_before_66(run: &[u8], at: u64, version: u32) -> EventPlace
+    ensures { λ r. ⌜ told r ≡ endBefore66 version at (now (run .entry)) ⌝ }
+{
+    let len = size_for_version(version);
+    if len + 4 <= remaining(run, at) {
+        let reactions = u32_at(run, at + len) as u64;
+        let behind = at + (len + 4);
+        if reactions * 32 + 24 <= remaining(run, behind) {
+            let count = u32_at(run, behind + reactions * 32 + 20) as u64;
+            let last = behind + (reactions * 32 + 24);
+            if count * 8 + 8 <= remaining(run, last) {
+                return EventPlace::At(last + (count * 8 + 8));
+            }
+        }
+    }
+    EventPlace::Refused(Refusal::Short(Part::Event))
+}
+
+fn end_from_66(run: &[u8], at: u64, body_primary: u32, body_dependent: u32) -> EventPlace
+    ensures { λ r. ⌜ told r ≡ endFrom66 «body_primary» «body_dependent» at (now (run .entry)) ⌝ }
+{
+    if 136 <= remaining(run, at) {
+        let from = at as usize;
+        let middle = from + 136;
+        let size = body_size(is_primary(&run[from..middle]), body_primary, body_dependent);
+        if size <= remaining(run, at + 136) {
+            return EventPlace::At(at + 136 + size);
+        }
+    }
+    EventPlace::Refused(Refusal::Short(Part::Event))
+}
+
+// Where the event at a place ends.
+pub fn event_end(
+    run: &[u8],
+    at: u64,
+    version: u32,
+    body_primary: u32,
+    body_dependent: u32,
+) -> EventPlace
+    ensures { λ r. ⌜ told r ≡ eventEnd version «body_primary» «body_dependent» at (now (run .entry)) ⌝ }
+{
+    if version >= 66 {
+        return end_from_66(run, at, body_primary, body_dependent);
+    }
+    end_before_66(run, at, version)
+}
+
+// Where the k-th of the events from a place on starts. Each event passed is there, so a k beyond the run costs no more turns
+// than the run has events.
+pub fn event_place(
+    run: &[u8],
+    start: u64,
+    k: u64,
+    version: u32,
+    body_primary: u32,
+    body_dependent: u32,
+) -> EventPlace
+    ensures { λ r. ⌜ told r ≡ eventPlace version «body_primary» «body_dependent» start k (now (run .entry)) ⌝ }
+{
+    let mut at = start;
+    let mut i: u64 = 0;
+    while i < k {
+        match event_end(run, at, version, body_primary, body_dependent) {
+            EventPlace::Refused(r) => return EventPlace::Refused(r),
+            EventPlace::At(next) => at = next,
+        }
+        i = i + 1;
+    }
+    EventPlace::At(at)
+}

@@ -1,0 +1,202 @@
+// The pairs of m/z and intensity of a scan, in two lent slices: those of a profile (`Profile::to_mz_intensity` of
+// scan_data.rs), and those of a peak list.
+ghost use mathlib.Core.Path.{_≡_};
+ghost use mathlib.Core.Bool.{cond};
+ghost use Prim.Native.Nat.{_+_, _*_};
+ghost use lib.ListN.{length};
+ghost use Rattle.lists.specs.Written.{each, fitting};
+ghost use Rattle.parser.specs.Parser.{bytes, le, parse};
+ghost use Rattle.parser.specs.Walk.{sum};
+ghost use Rattle.profile.specs.Profile.{points as pointsOf, chunk};
+ghost use Rattle.peaks.specs.Peaks.{peaksAt};
+ghost use Rattle.pairs.specs.Pairs.{chunksOf, profilePairs, peakPairs, masses, intensities, handOut, result, leaves};
+ghost use Rattle.pairs.specs.Stored.{signalOf, floatAt};
+use calibration::Bins;
+use calibration::write_chunk;
+use floats::f64_of_bits;
+use floats::widened;
+use profile::Profile;
+use profile::fudge_at;
+use profile::head_size;
+use reader::remaining;
+use reader::saturating_add;
+use reader::smaller;
+use reader::u32_at;
+use reader::u64_at;
+use refusal::Refusal;
+
+// How many pairs there are.
+pub enum PairsAnswer {
+    Pairs(u64),
+    Refused(Refusal),
+}
+
+// Where a chunk's signal stands, how many values it has, and the place behind it.
+struct Signal {
+    at: u64,
+    points: u64,
+    end: u64,
+}
+
+enum SignalAnswer {
+    Signal(Signal),
+    // The run ends before the chunk does.
+    Short,
+}
+
+// The signal of the chunk at a place.
+fn signal_at(run: &[u8], at: u64, fudged: bool) -> SignalAnswer
+    ensures { λ r. ⌜ r ≡ signalOf fudged at (parse (chunk fudged) (now (run .entry)) at) ⌝ }
+{
+    let head = head_size(fudged);
+    if remaining(run, at) < head {
+        return SignalAnswer::Short;
+    }
+    let points = u32_at(run, at + 4) as u64;
+    if remaining(run, at + head) < points * 4 {
+        return SignalAnswer::Short;
+    }
+    SignalAnswer::Signal(Signal {
+        at: at + head,
+        points,
+        end: at + head + points * 4,
+    })
+}
+
+// How many pairs a profile has. A count of chunks that the run does not hold costs no more turns than it has chunks.
+fn count_pairs(run: &[u8], profile: Profile) -> u64
+    ensures { λ r. ⌜ r ≡ sum pointsOf (chunksOf profile (now (run .entry))) ⌝ }
+{
+    let mut at = profile.chunks_at;
+    let mut pairs: u64 = 0;
+    let mut passed: u32 = 0;
+    while passed < profile.peak_count {
+        let SignalAnswer::Signal(found) = signal_at(run, at, profile.fudged) else {
+            return pairs;
+        };
+        pairs = pairs + found.points;
+        at = found.end;
+        passed = passed + 1;
+    }
+    pairs
+}
+
+// The pairs of a profile's chunks, as far as the run has them, over the fronts of both slices, as far as each goes.
+pub fn write_pairs(
+    run: &[u8],
+    profile: Profile,
+    coefficients: &[u64],
+    mz: &mut [f64],
+    intensity: &mut [f64],
+)
+    ensures { λ _. ⌜ now (mz .exit) ≡ fitting (masses (profilePairs profile (now (coefficients .entry)) (now (run .entry)))) (now (mz .entry)) ⌝ }
+    ensures { λ _. ⌜ now (intensity .exit) ≡ fitting (intensities (profilePairs profile (now (coefficients .entry)) (now (run .entry)))) (now (intensity .entry)) ⌝ }
+{
+    let bins = Bins {
+        first_value: profile.first_value,
+        step: profile.step,
+    };
+    let mz_len = mz.len() as u64;
+    let intensity_len = intensity.len() as u64;
+    let mut at = profile.chunks_at;
+    // How many of each are written. They differ once one of the slices is full.
+    let mut n: usize = 0;
+    let mut m: usize = 0;
+    let mut i: u32 = 0;
+    while i < profile.peak_count {
+        let SignalAnswer::Signal(signal) = signal_at(run, at, profile.fudged) else {
+            return;
+        };
+        write_chunk(
+            run,
+            signal.at,
+            signal.points,
+            u32_at(run, at),
+            fudge_at(run, at, profile.fudged),
+            bins,
+            coefficients,
+            &mut mz[n..],
+            &mut intensity[m..],
+        );
+        n = smaller(n as u64 + signal.points, mz_len) as usize;
+        m = smaller(m as u64 + signal.points, intensity_len) as usize;
+        at = signal.end;
+        i = i + 1;
+    }
+}
+
+// The same, where the slices hold them.
+pub fn to_mz_intensity(
+    run: &[u8],
+    profile: Profile,
+    coefficients: &[u64],
+    mz: &mut [f64],
+    intensity: &mut [f64],
+) -> PairsAnswer
+    ensures { λ r. ⌜ result r (now (mz .exit)) (now (intensity .exit)) ≡ leaves (handOut (length (now (mz .entry))) (length (now (intensity .entry))) (profilePairs profile (now (coefficients .entry)) (now (run .entry)))) (now (mz .entry)) (now (intensity .entry)) ⌝ }
+{
+    let n = count_pairs(run, profile);
+    if n <= mz.len() as u64 {
+        if n <= intensity.len() as u64 {
+            write_pairs(run, profile, coefficients, mz, intensity);
+            return PairsAnswer::Pairs(n);
+        }
+    }
+    PairsAnswer::Refused(Refusal::NoRoom)
+}
+
+// A number that is stored as an f64, or as an f32.
+fn float_at(run: &[u8], at: u64, wide: bool) -> f64
+    ensures { λ r. ⌜ r ≡ floatAt wide (now (run .entry)) at ⌝ }
+{
+    if wide {
+        f64_of_bits(u64_at(run, at))
+    } else {
+        widened(u32_at(run, at))
+    }
+}
+
+// Numbers that stand at equal distances, over the front of a lent slice, as far as it goes.
+fn copy_floats(run: &[u8], at: u64, stride: u64, n: u64, wide: bool, out: &mut [f64])
+    ensures { λ _. ⌜ now (out .exit) ≡ fitting (each (λ i. floatAt wide (now (run .entry)) (at + i * stride)) n) (now (out .entry)) ⌝ }
+{
+    let room = smaller(n, out.len() as u64) as usize;
+    let mut place = at;
+    let mut i: usize = 0;
+    while i < room {
+        out[i] = float_at(run, place, wide);
+        place = saturating_add(place, stride);
+        i = i + 1;
+    }
+}
+
+// How many bytes an m/z takes.
+fn mz_size(wide: bool) -> u64
+    ensures { λ r. ⌜ r ≡ cond wide 8 4 ⌝ }
+{
+    if wide { 8 } else { 4 }
+}
+
+// The pairs of n peaks, each `stride` bytes behind the one before: an m/z, and right behind it the abundance.
+pub fn write_peak_pairs(
+    run: &[u8],
+    at: u64,
+    stride: u64,
+    n: u64,
+    wide: bool,
+    mz: &mut [f64],
+    intensity: &mut [f64],
+)
+    ensures { λ _. ⌜ now (mz .exit) ≡ fitting (masses (peakPairs (peaksAt wide stride (now (run .entry)) at n))) (now (mz .entry)) ⌝ }
+    ensures { λ _. ⌜ now (intensity .exit) ≡ fitting (intensities (peakPairs (peaksAt wide stride (now (run .entry)) at n))) (now (intensity .entry)) ⌝ }
+{
+    copy_floats(run, at, stride, n, wide, mz);
+    copy_floats(
+        run,
+        saturating_add(at, mz_size(wide)),
+        stride,
+        n,
+        false,
+        intensity,
+    );
+}

@@ -1,0 +1,23 @@
+-- The code's constants, which it has by their patterns.
+-- Assumes nothing.
+use mathlib.Core.Path.{_≡_, refl}
+use mathlib.Core.Bool.{false}
+use lib.IntN.{negsuc}
+use lib.Ieee.{Float, fin, binary64, ofInt, ofBits}
+use Rattle.ten_thousandths.specs.TenThousandths.{zeroF, limit}
+
+pub zero-is : ofBits binary64 0 ≡ zeroF
+unfolding ofBits
+zero-is = refl
+
+pub limit-is : ofBits binary64 0x40e8_6a00_0000_0000 ≡ limit
+unfolding ofBits ofInt limit
+limit-is = refl
+
+-- 2 ^ -15
+abbrev pub least : Float
+least = fin false 1 (negsuc 14)
+
+pub least-is : ofBits binary64 0x3f00_0000_0000_0000 ≡ least
+unfolding ofBits
+least-is = refl

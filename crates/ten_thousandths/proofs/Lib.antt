@@ -1,0 +1,4 @@
+pub mod Constants
+pub mod Scaling
+pub mod Told
+pub mod Examples
