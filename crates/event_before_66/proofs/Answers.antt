@@ -1,21 +1,27 @@
 -- What reading an event below version 66 answers, by the tests that decide it.
 -- Assumes nothing.
-use mathlib.Core.Path.{_≡_, _∙_}
+use mathlib.Core.Path.{_≡_, refl, sym, subst, _∙_}
+use mathlib.Core.Logic.{⊎-elim}
 use Prim.Native.Nat.{ℕ, _+_, _*_, _≤_, _<_}
 use mathlib.Core.List.{List}
+use native.Mathlib.Omega.{arith}
 use lib.Dec.{leb}
+use lib.ListN.{length}
 use borrow.Author.Tests.{le-leb, lt-leb}
-use Rattle.refusal.specs.Outcome.{ranOut}
+use Rattle.refusal.specs.Outcome.{ok, refused, ranOut}
 use Rattle.lists.specs.Written.{each}
+use Rattle.lists.proofs.Cases.{le-or-lt}
 use Rattle.parser.specs.Parser.{Parser, done, short, parsed, within, parse, bytes, le, left, _>>=_}
 use Rattle.parser.specs.Call.{outcome}
 use Rattle.parser.proofs.Fixed.{parse-stage}
+use Rattle.parser.proofs.Answered.{ran-out}
 use Rattle.preamble.specs.Size.{sizeForVersion}
 use Rattle.scan_event.specs.Event.{Event, handOut}
 use Rattle.scan_event.specs.declared.Lent.{Lent}
-use Rattle.event_before_66.specs.Layout.{head, Middle, middle, tail, event, before66, readBefore66}
+use Rattle.event_before_66.specs.Layout.{head, Middle, middle, tail, event, before66, sizesOf, findSizes, readBefore66}
 use Rattle.event_before_66.specs.Places.{reactionsAt, coefficientsAt, end, eventAt}
 use Rattle.event_before_66.specs.declared.Sizes.{Sizes}
+use Rattle.event_before_66.proofs.Lengths.{preamble-length, reactions-length, coefficients-length}
 use Rattle.event_before_66.proofs.Stages.{head-sized, middle-sized, tail-sized, head-value, middle-value, tail-value}
 
 -- what follows the middle, and what follows the head
@@ -87,22 +93,68 @@ module _ (version : ℕ) (s : List ℕ) (at : ℕ) where
           let m = middleAt s (z .reactions) (reactionsAt at z) in
           rw (to-tail, parse-tail s (bytes s at (z .preamble)) m (coefficientsAt at z), ← counted, le-leb _ _ v)
 
--- so the answer
-module _ (version : ℕ) (lent : Lent) (s : List ℕ) (at : ℕ) where
-  pub short-head : left s at < sizeForVersion version + 4 → ranOut 3 ≡ readBefore66 version lent at s
-  unfolding readBefore66 outcome
+-- so what is found
+module _ (version : ℕ) (s : List ℕ) (at : ℕ) where
+  pub short-head : left s at < sizeForVersion version + 4 → ranOut 3 ≡ findSizes version at s
+  unfolding findSizes outcome
   short-head t = rw (parse-short-head version s at t)
 
   module _ (z : Sizes) (size : z .preamble ≡ sizeForVersion version) (t : z .preamble + 4 ≤ left s at) (reactions : z .reactions ≡ le (bytes s (at + z .preamble) 4)) where
-    pub short-middle : left s (reactionsAt at z) < z .reactions * 32 + 24 → ranOut 3 ≡ readBefore66 version lent at s
-    unfolding readBefore66 outcome
+    pub short-middle : left s (reactionsAt at z) < z .reactions * 32 + 24 → ranOut 3 ≡ findSizes version at s
+    unfolding findSizes outcome
     short-middle u = rw (parse-short-middle version s at z size t reactions u)
 
     module _ (u : z .reactions * 32 + 24 ≤ left s (reactionsAt at z)) (coefficients : z .coefficients ≡ le (bytes s (reactionsAt at z + z .reactions * 32 + 20) 4)) where
-      pub short-tail : left s (coefficientsAt at z) < z .coefficients * 8 + 8 → ranOut 3 ≡ readBefore66 version lent at s
-      unfolding readBefore66 outcome
+      pub short-tail : left s (coefficientsAt at z) < z .coefficients * 8 + 8 → ranOut 3 ≡ findSizes version at s
+      unfolding findSizes outcome
       short-tail v = rw (parse-short-tail version s at z size t reactions u coefficients v)
 
-      pub whole : z .coefficients * 8 + 8 ≤ left s (coefficientsAt at z) → handOut lent (eventAt at z s) (end at z) ≡ readBefore66 version lent at s
-      unfolding readBefore66 outcome
-      whole v = rw (parse-whole version s at z size t reactions u coefficients v)
+      pub whole-event : z .coefficients * 8 + 8 ≤ left s (coefficientsAt at z) → ok z ≡ findSizes version at s
+      unfolding findSizes outcome
+      whole-event v =
+          let there : end at z ≤ length s = omega arith in
+          rw (parse-whole version s at z size t reactions u coefficients v, preamble-length at z s there, reactions-length at z s there, coefficients-length at z s there)
+
+-- sizes that were found are those of the event that is there
+pub record Stands (version : ℕ) (s : List ℕ) (at : ℕ) (z : Sizes) : Type 0 where
+  pub within : end at z ≤ length s
+  pub there : parse (before66 version) s at ≡ parsed (eventAt at z s) (end at z)
+
+pub stands : (version : ℕ) (s : List ℕ) (at : ℕ) {z : Sizes} → ok z ≡ findSizes version at s → Stands version s at z
+stands version s at {z} e =
+    ⊎-elim
+    (λ (t : sizeForVersion version + 4 ≤ left s at).
+    ⊎-elim
+    (λ (u : w .reactions * 32 + 24 ≤ left s (reactionsAt at w)).
+    ⊎-elim
+    (λ (v : w .coefficients * 8 + 8 ≤ left s (coefficientsAt at w)).
+    let is : ok z ≡ ok w = e ∙ sym (whole-event version s at w refl t refl u refl v) in
+    let same : w ≡ z = cc in
+    subst (Stands version s at) same (record { within = omega arith; there = parse-whole version s at w refl t refl u refl v }))
+    (λ (v : left s (coefficientsAt at w) < w .coefficients * 8 + 8). never (e ∙ sym (short-tail version s at w refl t refl u refl v)))
+    (le-or-lt (w .coefficients * 8 + 8) (left s (coefficientsAt at w))))
+    (λ (u : left s (reactionsAt at w) < w .reactions * 32 + 24). never (e ∙ sym (short-middle version s at w refl t refl u)))
+    (le-or-lt (w .reactions * 32 + 24) (left s (reactionsAt at w))))
+    (λ (t : left s at < sizeForVersion version + 4). never (e ∙ sym (short-head version s at t)))
+    (le-or-lt (sizeForVersion version + 4) (left s at))
+  where
+    w : Sizes
+    w =
+        record {
+          preamble = sizeForVersion version;
+          reactions = le (bytes s (at + sizeForVersion version) 4);
+          coefficients = le (bytes s (at + (sizeForVersion version + 4) + le (bytes s (at + sizeForVersion version) 4) * 32 + 20) 4);
+        }
+
+    never : ok z ≡ ranOut 3 → Stands version s at z
+    never h = let c : _≡_ {A = ℕ} 0 1 = cc in absurd (omega arith)
+
+-- and the answer
+module _ (version : ℕ) (lent : Lent) (s : List ℕ) (at : ℕ) where
+  pub no-event : {n : ℕ} {carries : List ℕ} → refused n carries ≡ findSizes version at s → refused n carries ≡ readBefore66 version lent at s
+  unfolding findSizes readBefore66 outcome
+  no-event e = let r = ran-out 3 at (before66 version) (λ (v : Event) _. sizesOf v) s e in rw (r .one, r .part, r .there)
+
+  pub whole : {z : Sizes} → ok z ≡ findSizes version at s → handOut lent (eventAt at z s) (end at z) ≡ readBefore66 version lent at s
+  unfolding readBefore66 outcome
+  whole e = rw (stands version s at e .there)

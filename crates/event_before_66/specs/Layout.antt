@@ -2,7 +2,9 @@
 use Prim.Native.Nat.{ℕ}
 use mathlib.Core.List.{List}
 use lib.Ieee.{binary64, ofBits}
-use Rattle.refusal.specs.Outcome.{Outcome}
+use lib.ListN.{length}
+use Rattle.refusal.specs.Outcome.{Outcome, ok}
+use Rattle.refusal.specs.Number.{toldRefusal}
 use Rattle.parser.specs.Parser.{Parser, done, _>>=_, _>>_, raw, word, skip, checkCount, repeat}
 use Rattle.parser.specs.Call.{outcome, single}
 use Rattle.preamble.specs.Size.{sizeForVersion}
@@ -10,6 +12,9 @@ use Rattle.reaction.specs.Reactions.{Reaction}
 use Rattle.window.specs.declared.Window.the-variants.{Ends}
 use Rattle.scan_event.specs.Event.{Event, Decoded, handOut}
 use Rattle.scan_event.specs.declared.Lent.{Lent}
+use Rattle.event_before_66.specs.declared.Sizes.{Sizes}
+use Rattle.event_before_66.specs.declared.SizesAnswer.{SizesAnswer}
+use Rattle.event_before_66.specs.declared.SizesAnswer.the-variants as sizes
 
 -- the preamble, and the reaction count
 unfoldable pub head : ℕ → Parser (List ℕ × ℕ)
@@ -68,6 +73,17 @@ before66 version = do
   m ← middle (h .1)
   coefficients ← tail (m .count)
   done (event (h .0) m coefficients)
+
+-- what `find_sizes` answers: how long the event's lists are
+abbrev pub sizesOf : Event → Sizes
+sizesOf e = record { preamble = length (e .preamble); reactions = length (e .reactions); coefficients = length (e .coefficients) }
+
+unfoldable pub findSizes : ℕ → ℕ → List ℕ → Outcome Sizes
+findSizes version at run = outcome (single 3 at (before66 version) (λ e _. ok (sizesOf e))) run
+
+abbrev pub toldSizes : SizesAnswer → Outcome Sizes
+toldSizes (sizes.Found z) = ok z
+toldSizes (sizes.Refused r) = toldRefusal r
 
 -- what `read_before_66` answers
 unfoldable pub readBefore66 : ℕ → Lent → ℕ → List ℕ → Outcome Decoded

@@ -13,36 +13,25 @@ use Rattle.parser.specs.Call.{onward, outcome}
 use Rattle.parser.proofs.Prefix.{after}
 use Rattle.parser.proofs.Walk.{parse-repeat}
 use Rattle.parser.proofs.Answered.{found, RanOut, ran-out}
-use Rattle.preamble.specs.Size.{sizeForVersion}
 use Rattle.preamble.specs.Settings.{isPrimary}
 use Rattle.scan_event.specs.Event.{Event}
-use Rattle.event_before_66.specs.Layout.{before66}
-use Rattle.event_before_66.specs.Places.{reactionsAt, coefficientsAt, end}
+use Rattle.event_before_66.specs.Layout.{before66, sizesOf, findSizes}
+use Rattle.event_before_66.specs.Places.{end}
 use Rattle.event_before_66.specs.declared.Sizes.{Sizes}
-use Rattle.event_before_66.proofs.Answers.{parse-short-head, parse-short-middle, parse-short-tail, parse-whole}
+use Rattle.event_before_66.proofs.Answers.{stands}
 use Rattle.event_from_66.specs.Layout.{from66}
 use Rattle.event_walk.specs.Walk.{event, eventEnd, eventPlace}
 use Rattle.event_walk.specs.Layouts.{endBefore66, endFrom66}
 
 -- below version 66
 module _ (version : ℕ) (s : List ℕ) (at : ℕ) where
-  pub no-head : left s at < sizeForVersion version + 4 → ranOut 3 ≡ endBefore66 version at s
+  pub no-event : {n : ℕ} {carries : List ℕ} → refused n carries ≡ findSizes version at s → refused n carries ≡ endBefore66 version at s
+  unfolding findSizes endBefore66 outcome
+  no-event e = let r = ran-out 3 at (before66 version) (λ (v : Event) _. sizesOf v) s e in rw (r .one, r .part, r .there)
+
+  pub whole-before : {z : Sizes} → ok z ≡ findSizes version at s → ok (end at z) ≡ endBefore66 version at s
   unfolding endBefore66 outcome
-  no-head t = rw (parse-short-head version s at t)
-
-  module _ (z : Sizes) (size : z .preamble ≡ sizeForVersion version) (t : z .preamble + 4 ≤ left s at) (reactions : z .reactions ≡ le (bytes s (at + z .preamble) 4)) where
-    pub no-middle : left s (reactionsAt at z) < z .reactions * 32 + 24 → ranOut 3 ≡ endBefore66 version at s
-    unfolding endBefore66 outcome
-    no-middle u = rw (parse-short-middle version s at z size t reactions u)
-
-    module _ (u : z .reactions * 32 + 24 ≤ left s (reactionsAt at z)) (coefficients : z .coefficients ≡ le (bytes s (reactionsAt at z + z .reactions * 32 + 20) 4)) where
-      pub no-tail : left s (coefficientsAt at z) < z .coefficients * 8 + 8 → ranOut 3 ≡ endBefore66 version at s
-      unfolding endBefore66 outcome
-      no-tail v = rw (parse-short-tail version s at z size t reactions u coefficients v)
-
-      pub whole-before : z .coefficients * 8 + 8 ≤ left s (coefficientsAt at z) → ok (end at z) ≡ endBefore66 version at s
-      unfolding endBefore66 outcome
-      whole-before v = rw (parse-whole version s at z size t reactions u coefficients v)
+  whole-before e = rw (stands version s at e .there)
 
 -- from version 66 on
 module _ (primary dependent : ℕ) (s : List ℕ) (at : ℕ) where

@@ -2,11 +2,11 @@
 ghost use mathlib.Core.Path.{_≡_};
 ghost use Rattle.event_walk.specs.Walk.{eventEnd, eventPlace, told};
 ghost use Rattle.event_walk.specs.Layouts.{endBefore66, endFrom66};
+use event_before_66::SizesAnswer;
+use event_before_66::find_sizes;
 use event_from_66::body_size;
 use preamble::is_primary;
-use preamble::size_for_version;
 use reader::remaining;
-use reader::u32_at;
 use refusal::Part;
 use refusal::Refusal;
 
@@ -19,19 +19,12 @@ pub enum EventPlace {
 fn end_before_66(run: &[u8], at: u64, version: u32) -> EventPlace
     ensures { λ r. ⌜ told r ≡ endBefore66 version at (now (run .entry)) ⌝ }
 {
-    let len = size_for_version(version);
-    if len + 4 <= remaining(run, at) {
-        let reactions = u32_at(run, at + len) as u64;
-        let behind = at + (len + 4);
-        if reactions * 32 + 24 <= remaining(run, behind) {
-            let count = u32_at(run, behind + reactions * 32 + 20) as u64;
-            let last = behind + (reactions * 32 + 24);
-            if count * 8 + 8 <= remaining(run, last) {
-                return EventPlace::At(last + (count * 8 + 8));
-            }
-        }
+    match find_sizes(run, at, version) {
+        SizesAnswer::Refused(r) => EventPlace::Refused(r),
+        SizesAnswer::Found(z) => EventPlace::At(
+            at + (z.preamble + 4) + (z.reactions * 32 + 24) + (z.coefficients * 8 + 8),
+        ),
     }
-    EventPlace::Refused(Refusal::Short(Part::Event))
 }
 
 fn end_from_66(run: &[u8], at: u64, body_primary: u32, body_dependent: u32) -> EventPlace
