@@ -18,6 +18,11 @@ pub fn lent8(length: usize) -> Vec<u8> {
     (0..length).map(|i| 0xa5u8.wrapping_add(i as u8)).collect()
 }
 
+/// A slice of 16-bit elements as it is lent.
+pub fn lent16(length: usize) -> Vec<u16> {
+    (0..length as u16).map(|i| 0xa5a0 + i).collect()
+}
+
 /// A slice of 32-bit elements as it is lent.
 pub fn lent32(length: usize) -> Vec<u32> {
     (0..length as u32).map(|i| 0xa5a5_0000 + i).collect()
@@ -30,7 +35,15 @@ pub fn lent64(length: usize) -> Vec<u64> {
         .collect()
 }
 
-/// The bits of a float that arithmetic or widening made: every NaN counts as one value.
+/// The bits of a float that arithmetic, narrowing or widening made: every NaN counts as one value.
+pub fn made_bits32(value: f32) -> u32 {
+    if value.is_nan() {
+        0x7fc0_0000
+    } else {
+        value.to_bits()
+    }
+}
+
 pub fn made_bits64(value: f64) -> u64 {
     if value.is_nan() {
         0x7ff8_0000_0000_0000
@@ -90,17 +103,21 @@ impl Answers {
         self
     }
 
-    /// A float that arithmetic, narrowing or widening made: every NaN counts as one value.
     pub fn made32(&mut self, value: f32) -> &mut Self {
-        self.bits32(if value.is_nan() {
-            0x7fc0_0000
-        } else {
-            value.to_bits()
-        })
+        self.bits32(made_bits32(value))
     }
 
     pub fn made64(&mut self, value: f64) -> &mut Self {
         self.bits64(made_bits64(value))
+    }
+
+    /// A field of bytes, as in a request.
+    pub fn bytes(&mut self, bytes: &[u8]) -> &mut Self {
+        self.put(if bytes.is_empty() { " -" } else { " " });
+        for byte in bytes {
+            let _ = write!(self.text, "{byte:02x}");
+        }
+        self
     }
 
     pub fn number_or_none<N: Display>(&mut self, number: Option<N>) -> &mut Self {
@@ -138,6 +155,15 @@ impl Answers {
         self.put(" |");
         for element in slice {
             let _ = write!(self.text, " {element:02x}");
+        }
+        self
+    }
+
+    /// A lent slice of 16-bit elements after the call.
+    pub fn slice16(&mut self, slice: &[u16]) -> &mut Self {
+        self.put(" |");
+        for element in slice {
+            let _ = write!(self.text, " {element:04x}");
         }
         self
     }

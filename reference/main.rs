@@ -15,7 +15,11 @@ pub use types::*;
 
 mod answer;
 mod error;
+mod packets;
+mod pairs;
+mod records;
 mod request;
+mod searches;
 
 // Files that reader.rs names but that are not at hand.
 mod error_log {
@@ -39,10 +43,9 @@ mod seq_row {
     pub struct SeqRow;
 }
 
-use answer::{lent32, lent64, lent8, made_bits64, Answers, Part};
+use answer::{lent64, lent8, Answers, Part};
 use reader::BinaryReader;
 use request::Fields;
-use scan_data::{PacketHeader, Peak, ScanDataPacket};
 use scan_event::{ScanEvent, ScanEventPreamble};
 use scan_format::ScanDataFormat;
 use scan_index::ScanIndexEntry;
@@ -97,10 +100,21 @@ fn answer(line: &[u8], out: &mut Answers) -> Option<()> {
         b"preamble" => preamble,
         b"event" => event,
         b"counted" => counted,
-        b"packet_header" => packet_header,
-        b"peaks" => peaks,
-        b"narrow" => narrow,
-        b"noise" => noise,
+        b"packet_header" => packets::packet_header,
+        b"peaks" => packets::peaks,
+        b"skip_profile" => packets::skip_profile,
+        b"packet" => packets::packet,
+        b"narrow" => packets::narrow,
+        b"noise" => packets::noise,
+        b"labels" => packets::labels,
+        b"flat" => records::flat,
+        b"srm" => records::srm,
+        b"srm_windows" => records::srm_windows,
+        b"freq_to_mz" => pairs::freq_to_mz,
+        b"pairs" => pairs::pairs,
+        b"v63" => searches::v63,
+        b"event_transition" => searches::event_transition,
+        b"channels" => searches::channels,
         _ => return None,
     };
     request(&mut fields, out)
@@ -346,9 +360,9 @@ impl EventSlices {
     fn lent(fields: &mut Fields) -> Option<Self> {
         Some(Self {
             preamble: lent8(fields.lent_preamble()?),
-            precursors: lent64(fields.lent_floats()?),
-            energies: lent64(fields.lent_floats()?),
-            coefficients: lent64(fields.lent_floats()?),
+            precursors: lent64(fields.lent_elements()?),
+            energies: lent64(fields.lent_elements()?),
+            coefficients: lent64(fields.lent_elements()?),
         })
     }
 
@@ -464,81 +478,6 @@ fn entry(fields: &mut Fields, out: &mut Answers) -> Option<()> {
             .bits64(entry.low_mz.to_bits())
             .bits64(entry.high_mz.to_bits())
             .number(entry.offset),
-    };
-    Some(())
-}
-
-// scan_data.rs
-
-fn packet_header(fields: &mut Fields, out: &mut Answers) -> Option<()> {
-    let place = fields.u64()?;
-    let bytes = fields.bytes()?;
-    fields.end()?;
-    match PacketHeader::read_at(&mut reader_at(&bytes, place)) {
-        Err(error) => out.refused(&error, Part::Data),
-        Ok(header) => out
-            .ok()
-            .number(header.profile_size)
-            .number(header.peak_list_size)
-            .number(header.layout)
-            .number(header.descriptor_list_size)
-            .number(header.unknown_stream_size)
-            .number(header.triplet_stream_size)
-            .bits32(header.low_mz.to_bits())
-            .bits32(header.high_mz.to_bits()),
-    };
-    Some(())
-}
-
-/// The peaks of the packet at a place, and whether their masses were stored as f64.
-fn read_peaks(bytes: &[u8], place: u64) -> error::Result<(bool, Vec<Peak>)> {
-    let header = PacketHeader::read_at(&mut reader_at(bytes, place))?;
-    let peaks = ScanDataPacket::read_peaks_only(&mut reader_at(bytes, place))?;
-    Ok((header.has_wide_mz(), peaks))
-}
-
-fn peaks(fields: &mut Fields, out: &mut Answers) -> Option<()> {
-    let place = fields.u64()?;
-    let mut masses = lent64(fields.lent_floats()?);
-    let mut abundances = lent32(fields.lent_floats()?);
-    let bytes = fields.bytes()?;
-    fields.end()?;
-    match read_peaks(&bytes, place) {
-        Err(error) => out.refused(&error, Part::Data),
-        Ok((_, peaks)) if masses.len() < peaks.len() || abundances.len() < peaks.len() => {
-            out.too_short()
-        }
-        Ok((wide, peaks)) => {
-            for (at, peak) in peaks.iter().enumerate() {
-                masses[at] = if wide {
-                    peak.mz.to_bits()
-                } else {
-                    made_bits64(peak.mz)
-                };
-                abundances[at] = peak.abundance.to_bits();
-            }
-            out.ok().number(peaks.len())
-        }
-    }
-    .slice64(&masses)
-    .slice32(&abundances);
-    Some(())
-}
-
-fn narrow(fields: &mut Fields, out: &mut Answers) -> Option<()> {
-    let value = f64::from_bits(fields.u64()?);
-    fields.end()?;
-    out.ok().made32(value as f32);
-    Some(())
-}
-
-fn noise(fields: &mut Fields, out: &mut Answers) -> Option<()> {
-    let mz = f64::from_bits(fields.u64()?);
-    let nodes = fields.bytes()?;
-    fields.end()?;
-    match ScanDataPacket::with_nodes(&nodes).noise_at(mz) {
-        None => out.none(),
-        Some((noise, baseline)) => out.ok().made32(noise).made32(baseline),
     };
     Some(())
 }

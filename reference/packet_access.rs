@@ -12,6 +12,12 @@ impl PacketHeader {
     }
 }
 
+impl Profile {
+    pub(crate) fn read_at<R: Read + Seek>(r: &mut BinaryReader<R>, layout: u32) -> Result<Self> {
+        Self::read(r, layout)
+    }
+}
+
 impl ScanDataPacket {
     /// A packet of which only the nodes matter. The bytes behind the last whole triple are no node.
     pub(crate) fn with_nodes(triples: &[u8]) -> Self {

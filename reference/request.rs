@@ -6,8 +6,8 @@ const MOST_TEXT: u64 = 64;
 /// The most bytes of a preamble that are lent.
 const MOST_PREAMBLE: u64 = 256;
 
-/// The most floats that are lent.
-const MOST_FLOATS: u64 = 64;
+/// The most elements of any other slice that are lent, and the most that a list of a request has.
+const MOST_ELEMENTS: u64 = 64;
 
 /// The fields that are still to be read.
 pub struct Fields<'a> {
@@ -60,6 +60,10 @@ impl<'a> Fields<'a> {
         self.number(u64::from(u8::MAX)).map(|n| n as u8)
     }
 
+    pub fn u16(&mut self) -> Option<u16> {
+        self.number(u64::from(u16::MAX)).map(|n| n as u16)
+    }
+
     pub fn u32(&mut self) -> Option<u32> {
         self.number(u64::from(u32::MAX)).map(|n| n as u32)
     }
@@ -82,9 +86,9 @@ impl<'a> Fields<'a> {
         self.number(MOST_PREAMBLE).map(|n| n as usize)
     }
 
-    /// How many floats are lent.
-    pub fn lent_floats(&mut self) -> Option<usize> {
-        self.number(MOST_FLOATS).map(|n| n as usize)
+    /// How many elements of another slice are lent.
+    pub fn lent_elements(&mut self) -> Option<usize> {
+        self.number(MOST_ELEMENTS).map(|n| n as usize)
     }
 
     /// Bytes as pairs of lower-case hexadecimal digits, or `-` for none.
@@ -100,6 +104,28 @@ impl<'a> Fields<'a> {
             .chunks_exact(2)
             .map(|pair| Some(digit(pair[0])? << 4 | digit(pair[1])?))
             .collect()
+    }
+
+    /// A list of numbers as their bytes.
+    fn elements<const N: usize>(&mut self) -> Option<Vec<[u8; N]>> {
+        let bytes = self.bytes()?;
+        if bytes.len() % N != 0 || bytes.len() / N > MOST_ELEMENTS as usize {
+            return None;
+        }
+        bytes
+            .chunks_exact(N)
+            .map(|element| element.try_into().ok())
+            .collect()
+    }
+
+    pub fn f64s(&mut self) -> Option<Vec<f64>> {
+        let elements = self.elements()?;
+        Some(elements.into_iter().map(f64::from_le_bytes).collect())
+    }
+
+    pub fn u16s(&mut self) -> Option<Vec<u16>> {
+        let elements = self.elements()?;
+        Some(elements.into_iter().map(u16::from_le_bytes).collect())
     }
 }
 

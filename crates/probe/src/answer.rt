@@ -68,11 +68,19 @@ fn wide(x: u8) -> u64 {
     x as u64
 }
 
-fn hex(out: &mut [u8], n: usize, value: u64, width: usize) -> usize {
-    let n = put_byte(out, n, b' ');
+fn wide16(x: u16) -> u64 {
+    x as u64
+}
+
+fn digits(out: &mut [u8], n: usize, value: u64, width: usize) -> usize {
     let mut text = [0u8; 16];
     let k = io::hex(value, width, &mut text);
     put(out, n, &text[..k])
+}
+
+fn hex(out: &mut [u8], n: usize, value: u64, width: usize) -> usize {
+    let n = put_byte(out, n, b' ');
+    digits(out, n, value, width)
 }
 
 pub(crate) fn bits32(out: &mut [u8], n: usize, bits: u32) -> usize {
@@ -81,6 +89,15 @@ pub(crate) fn bits32(out: &mut [u8], n: usize, bits: u32) -> usize {
 
 pub(crate) fn bits64(out: &mut [u8], n: usize, bits: u64) -> usize {
     hex(out, n, bits, 16)
+}
+
+// A float as its bits, any NaN as one.
+pub(crate) fn float32(out: &mut [u8], n: usize, x: f32) -> usize {
+    bits32(out, n, floats::bits_of_f32(x))
+}
+
+pub(crate) fn float64(out: &mut [u8], n: usize, x: f64) -> usize {
+    bits64(out, n, floats::bits_of_f64(x))
 }
 
 pub(crate) fn ok_number(out: &mut [u8], n: usize, value: u64) -> usize {
@@ -102,12 +119,37 @@ pub(crate) fn refused(out: &mut [u8], n: usize, refusal: Refusal) -> usize {
     }
 }
 
+// A field of bytes, as in a request.
+pub(crate) fn bytes(out: &mut [u8], n: usize, run: &[u8]) -> usize {
+    if run.len() == 0 {
+        return put(out, n, b" -");
+    }
+    let mut n = put_byte(out, n, b' ');
+    let mut i: usize = 0;
+    while i < run.len() {
+        n = digits(out, n, wide(run[i]), 2);
+        i = i + 1;
+    }
+    n
+}
+
 // A lent slice of bytes after the call.
 pub(crate) fn slice8(out: &mut [u8], n: usize, lent: &[u8]) -> usize {
     let mut n = put(out, n, b" |");
     let mut i: usize = 0;
     while i < lent.len() {
         n = hex(out, n, wide(lent[i]), 2);
+        i = i + 1;
+    }
+    n
+}
+
+// A lent slice of 16-bit elements after the call.
+pub(crate) fn slice16(out: &mut [u8], n: usize, lent: &[u16]) -> usize {
+    let mut n = put(out, n, b" |");
+    let mut i: usize = 0;
+    while i < lent.len() {
+        n = hex(out, n, wide16(lent[i]), 4);
         i = i + 1;
     }
     n
@@ -130,6 +172,28 @@ pub(crate) fn slice64(out: &mut [u8], n: usize, lent: &[u64]) -> usize {
     let mut i: usize = 0;
     while i < lent.len() {
         n = bits64(out, n, lent[i]);
+        i = i + 1;
+    }
+    n
+}
+
+// A lent slice of f32 numbers after the call.
+pub(crate) fn slice_f32(out: &mut [u8], n: usize, lent: &[f32]) -> usize {
+    let mut n = put(out, n, b" |");
+    let mut i: usize = 0;
+    while i < lent.len() {
+        n = float32(out, n, lent[i]);
+        i = i + 1;
+    }
+    n
+}
+
+// A lent slice of f64 numbers after the call.
+pub(crate) fn slice_f64(out: &mut [u8], n: usize, lent: &[f64]) -> usize {
+    let mut n = put(out, n, b" |");
+    let mut i: usize = 0;
+    while i < lent.len() {
+        n = float64(out, n, lent[i]);
         i = i + 1;
     }
     n

@@ -3,10 +3,14 @@
 mod answer;
 mod names;
 mod packets;
+mod peak_labels;
 mod preambles;
+mod profile_pairs;
+mod records;
 mod request;
 mod scan_events;
 mod scans;
+mod searches;
 mod serve;
 mod values;
 mod words;

@@ -6,11 +6,13 @@ ghost use Prim.Native.Nat.{_≤_};
 
 pub const U8: u64 = 0xff;
 
+pub const U16: u64 = 0xffff;
+
 pub const U32: u64 = 0xffff_ffff;
 
 pub const U64: u64 = 0xffff_ffff_ffff_ffff;
 
-// The most elements of a slice that are lent, and of a preamble.
+// The most elements of a slice that are lent, and of a list; the most of a preamble.
 pub const LENT: u64 = 64;
 
 pub const PREAMBLE: u64 = 256;
@@ -144,6 +146,77 @@ pub(crate) fn bytes(line: &[u8], at: usize, data: &mut [u8]) -> Field {
     Field { value: count, end }
 }
 
+// The field that follows at `at` as a list of 64-bit numbers, whose bytes go to the front of `data`: how many there are.
+fn list64(line: &[u8], at: usize, data: &mut [u8]) -> Field {
+    let count = bytes(line, at, data);
+    if count.value % 8 != 0 {
+        return nowhere();
+    }
+    if 8 * LENT < count.value {
+        return nowhere();
+    }
+    Field {
+        value: count.value / 8,
+        end: count.end,
+    }
+}
+
+// The same, and the numbers at the front of `out`. What stands behind them is not used.
+pub(crate) fn u64s(line: &[u8], at: usize, data: &mut [u8], out: &mut [u64]) -> Field {
+    let list = list64(line, at, data);
+    reader::copy_u64s(data, 0, 8, list.value, out);
+    list
+}
+
+fn copy_f64s(list: &[u8], out: &mut [f64]) {
+    let mut place: u64 = 0;
+    let mut i: usize = 0;
+    while i < out.len() {
+        out[i] = floats::f64_of_bits(reader::u64_at(list, place));
+        place = reader::saturating_add(place, 8);
+        i = i + 1;
+    }
+}
+
+// The same of floats.
+pub(crate) fn f64s(line: &[u8], at: usize, data: &mut [u8], out: &mut [f64]) -> Field {
+    let list = list64(line, at, data);
+    copy_f64s(data, out);
+    list
+}
+
+// The field that follows at `at` as a list of 16-bit numbers, whose bytes go to the front of `data`: how many there are.
+fn list16(line: &[u8], at: usize, data: &mut [u8]) -> Field {
+    let count = bytes(line, at, data);
+    if count.value % 2 != 0 {
+        return nowhere();
+    }
+    if 2 * LENT < count.value {
+        return nowhere();
+    }
+    Field {
+        value: count.value / 2,
+        end: count.end,
+    }
+}
+
+fn copy_u16s(list: &[u8], out: &mut [u16]) {
+    let mut place: u64 = 0;
+    let mut i: usize = 0;
+    while i < out.len() {
+        out[i] = reader::u16_at(list, place);
+        place = reader::saturating_add(place, 2);
+        i = i + 1;
+    }
+}
+
+// The same, and the numbers at the front of `out`. What stands behind them is not used.
+pub(crate) fn u16s(line: &[u8], at: usize, data: &mut [u8], out: &mut [u16]) -> Field {
+    let list = list16(line, at, data);
+    copy_u16s(data, out);
+    list
+}
+
 // The bytes that `bytes` put there.
 pub(crate) fn front(data: &[u8], count: u64) -> &[u8] {
     let count = count as usize;
@@ -173,11 +246,39 @@ pub(crate) fn preamble_length(value: u64) -> usize
     (value % 257) as usize
 }
 
+// Two lent lengths, and where their fields end.
+pub struct Lengths {
+    pub first: usize,
+    pub second: usize,
+    pub end: usize,
+}
+
+pub(crate) fn lent_lengths(line: &[u8], at: usize) -> Lengths
+    ensures { λ r. ⌜ (r .first ≤ 64) × (r .second ≤ 64) ⌝ }
+{
+    let first = number(line, at, LENT);
+    let second = number(line, first.end, LENT);
+    Lengths {
+        first: lent_length(first.value),
+        second: lent_length(second.value),
+        end: second.end,
+    }
+}
+
 // What a lent slice of bytes holds before the call.
 pub(crate) fn fill(lent: &mut [u8]) {
     let mut i: usize = 0;
     while i < lent.len() {
         lent[i] = ((0xa5 + i % 256) % 256) as u8;
+        i = i + 1;
+    }
+}
+
+// What a lent slice of 16-bit elements holds before the call.
+pub(crate) fn fill16(lent: &mut [u16]) {
+    let mut i: usize = 0;
+    while i < lent.len() {
+        lent[i] = (0xa5a0 + i % 256) as u16;
         i = i + 1;
     }
 }
@@ -196,6 +297,24 @@ pub(crate) fn fill64(lent: &mut [u64]) {
     let mut i: usize = 0;
     while i < lent.len() {
         lent[i] = 0xa5a5_a5a5_0000_0000 + (i as u64) % 0x1_0000_0000;
+        i = i + 1;
+    }
+}
+
+// What a lent slice of f32 numbers holds before the call.
+pub(crate) fn fill_f32(lent: &mut [f32]) {
+    let mut i: usize = 0;
+    while i < lent.len() {
+        lent[i] = floats::f32_of_bits((0xa5a5_0000 + i % 0x1_0000) as u32);
+        i = i + 1;
+    }
+}
+
+// What a lent slice of f64 numbers holds before the call.
+pub(crate) fn fill_f64(lent: &mut [f64]) {
+    let mut i: usize = 0;
+    while i < lent.len() {
+        lent[i] = floats::f64_of_bits(0xa5a5_a5a5_0000_0000 + (i as u64) % 0x1_0000_0000);
         i = i + 1;
     }
 }

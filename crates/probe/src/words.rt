@@ -2,9 +2,13 @@
 use crate::answer;
 use crate::names;
 use crate::packets;
+use crate::peak_labels;
 use crate::preambles;
+use crate::profile_pairs;
+use crate::records;
 use crate::scan_events;
 use crate::scans;
+use crate::searches;
 use crate::values;
 
 pub(crate) fn answer_request(line: &[u8], data: &mut [u8], out: &mut [u8], n: usize) -> usize {
@@ -82,11 +86,88 @@ fn of_packets(
     if check::same(word, b"peaks") {
         return packets::peaks(line, at, data, out, n);
     }
+    if check::same(word, b"skip_profile") {
+        return packets::skip_profile(line, at, data, out, n);
+    }
+    if check::same(word, b"packet") {
+        return packets::packet(line, at, data, out, n);
+    }
+    of_labels(word, line, at, data, out, n)
+}
+
+fn of_labels(
+    word: &[u8],
+    line: &[u8],
+    at: usize,
+    data: &mut [u8],
+    out: &mut [u8],
+    n: usize,
+) -> usize {
     if check::same(word, b"narrow") {
-        return packets::narrow(line, at, out, n);
+        return peak_labels::narrow(line, at, out, n);
     }
     if check::same(word, b"noise") {
-        return packets::noise(line, at, data, out, n);
+        return peak_labels::noise(line, at, data, out, n);
+    }
+    if check::same(word, b"labels") {
+        return peak_labels::labels(line, at, data, out, n);
+    }
+    of_records(word, line, at, data, out, n)
+}
+
+fn of_records(
+    word: &[u8],
+    line: &[u8],
+    at: usize,
+    data: &mut [u8],
+    out: &mut [u8],
+    n: usize,
+) -> usize {
+    if check::same(word, b"flat") {
+        return records::flat(line, at, data, out, n);
+    }
+    if check::same(word, b"srm") {
+        return records::srm(line, at, data, out, n);
+    }
+    if check::same(word, b"srm_windows") {
+        return records::srm_windows(line, at, data, out, n);
+    }
+    of_pairs(word, line, at, data, out, n)
+}
+
+fn of_pairs(
+    word: &[u8],
+    line: &[u8],
+    at: usize,
+    data: &mut [u8],
+    out: &mut [u8],
+    n: usize,
+) -> usize {
+    if check::same(word, b"freq_to_mz") {
+        return profile_pairs::freq_to_mz(line, at, data, out, n);
+    }
+    if check::same(word, b"pairs") {
+        return profile_pairs::pairs(line, at, data, out, n);
+    }
+    of_searches(word, line, at, data, out, n)
+}
+
+fn of_searches(
+    word: &[u8],
+    line: &[u8],
+    at: usize,
+    data: &mut [u8],
+    out: &mut [u8],
+    n: usize,
+) -> usize {
+    if check::same(word, b"v63") {
+        return searches::v63(line, at, data, out, n);
+    }
+    if check::same(word, b"event_transition") {
+        return searches::event_transition(line, at, data, out, n);
+    }
+    if check::same(word, b"channels") {
+        return searches::channels(line, at, data, out, n);
     }
     of_names(word, line, at, out, n)
 }

@@ -1,0 +1,64 @@
+-- The loop stays within the slice, whose length stays.
+use Prim.Native.Nat.{_≤_, _-_}
+use mathlib.Core.Path.{_≡_}
+use lib.ListN.{length}
+use borrow.Author.Needs.{needs}
+use Rattle.probe.proofs.request.copy_f64s.Statement.{statement}
+use Rattle.probe.proofs.request.copy_f64s.Tie as tie
+
+abbrev Inv-loop : tie.InvT-loop
+Inv-loop list out₀ place₀ i₀ out place i = (i ≤ length out₀) × (length out ≡ length out₀)
+
+abbrev μ-loop : tie.MeasureT-loop
+μ-loop list out₀ place₀ i₀ out place i = length out₀ - i
+
+loop-holds : tie.Need-loop-holds Inv-loop μ-loop
+loop-holds c = search needs
+
+u64-at-requires : tie.Need-u64-at-requires Inv-loop μ-loop
+u64-at-requires c κs = search needs
+
+f64-of-bits-requires : tie.Need-f64-of-bits-requires Inv-loop μ-loop
+f64-of-bits-requires c κs = search needs
+
+mul-out : tie.Need-mul-out Inv-loop μ-loop
+mul-out c = search needs
+
+slice-write-out : tie.Need-slice-write-out Inv-loop μ-loop
+slice-write-out c = search needs
+
+saturating-add-requires : tie.Need-saturating-add-requires Inv-loop μ-loop
+saturating-add-requires c κs = search needs
+
+add-i : tie.Need-add-i Inv-loop μ-loop
+add-i c = search needs
+
+loop-less : tie.Need-loop-less Inv-loop μ-loop
+loop-less c = search needs
+
+loop-again : tie.Need-loop-again Inv-loop μ-loop
+loop-again c = search needs
+
+same-length : tie.Need-same-length Inv-loop μ-loop
+same-length c = search needs
+
+returns : tie.Need-returns Inv-loop μ-loop
+returns c = search needs
+
+pub copy-f64s-spec : {M : Type 1} → statement M
+copy-f64s-spec =
+    tie.close
+    (tie.spec
+    Inv-loop
+    μ-loop
+    loop-holds
+    u64-at-requires
+    f64-of-bits-requires
+    mul-out
+    slice-write-out
+    saturating-add-requires
+    add-i
+    loop-less
+    loop-again
+    same-length
+    returns)

@@ -1,0 +1,60 @@
+-- The loop stays within the lent slice, whose length stays.
+use Prim.Native.Nat.{_≤_, _-_}
+use mathlib.Core.Path.{_≡_}
+use lib.ListN.{length}
+use borrow.Author.Needs.{needs}
+use Rattle.probe.proofs.request.fill_f64.Statement.{statement}
+use Rattle.probe.proofs.request.fill_f64.Tie as tie
+
+abbrev Inv-loop : tie.InvT-loop
+Inv-loop lent₀ i₀ lent i = (i ≤ length lent₀) × (length lent ≡ length lent₀)
+
+abbrev μ-loop : tie.MeasureT-loop
+μ-loop lent₀ i₀ lent i = length lent₀ - i
+
+loop-holds : tie.Need-loop-holds Inv-loop μ-loop
+loop-holds c = search needs
+
+add-f64-of-bits : tie.Need-add-f64-of-bits Inv-loop μ-loop
+add-f64-of-bits c = search needs
+
+f64-of-bits-requires : tie.Need-f64-of-bits-requires Inv-loop μ-loop
+f64-of-bits-requires c κs = search needs
+
+mul-lent : tie.Need-mul-lent Inv-loop μ-loop
+mul-lent c = search needs
+
+slice-write-lent : tie.Need-slice-write-lent Inv-loop μ-loop
+slice-write-lent c = search needs
+
+add-i : tie.Need-add-i Inv-loop μ-loop
+add-i c = search needs
+
+loop-less : tie.Need-loop-less Inv-loop μ-loop
+loop-less c = search needs
+
+loop-again : tie.Need-loop-again Inv-loop μ-loop
+loop-again c = search needs
+
+same-length : tie.Need-same-length Inv-loop μ-loop
+same-length c = search needs
+
+returns : tie.Need-returns Inv-loop μ-loop
+returns c = search needs
+
+pub fill-f64-spec : {M : Type 1} → statement M
+fill-f64-spec =
+    tie.close
+    (tie.spec
+    Inv-loop
+    μ-loop
+    loop-holds
+    add-f64-of-bits
+    f64-of-bits-requires
+    mul-lent
+    slice-write-lent
+    add-i
+    loop-less
+    loop-again
+    same-length
+    returns)

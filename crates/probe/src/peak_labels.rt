@@ -1,0 +1,119 @@
+// Labels: the crates `narrow` and `noise`.
+ghost use Prim.Native.Nat.{_≤_};
+use crate::answer;
+use crate::request;
+use crate::request::LENT;
+use crate::request::Lengths;
+use crate::request::U64;
+use narrow::narrowed;
+use noise::LabelsAnswer;
+use noise::NoiseAnswer;
+use noise::label_peaks;
+use noise::noise_at;
+
+pub(crate) fn narrow(line: &[u8], at: usize, out: &mut [u8], n: usize) -> usize {
+    let field = request::number(line, at, U64);
+    if field.end != line.len() {
+        return answer::bad(out, n);
+    }
+    let n = answer::ok(out, n);
+    answer::float32(out, n, narrowed(floats::f64_of_bits(field.value)))
+}
+
+fn put_noise(out: &mut [u8], n: usize, answer: NoiseAnswer) -> usize {
+    match answer {
+        NoiseAnswer::None => answer::none(out, n),
+        NoiseAnswer::Values(noise, baseline) => {
+            let n = answer::ok(out, n);
+            let n = answer::float32(out, n, noise);
+            answer::float32(out, n, baseline)
+        }
+    }
+}
+
+pub(crate) fn noise(line: &[u8], at: usize, data: &mut [u8], out: &mut [u8], n: usize) -> usize {
+    let mz = request::number(line, at, U64);
+    let count = request::bytes(line, mz.end, data);
+    if count.end != line.len() {
+        return answer::bad(out, n);
+    }
+    let nodes = request::front(data, count.value);
+    put_noise(out, n, noise_at(floats::f64_of_bits(mz.value), nodes))
+}
+
+fn put_count(out: &mut [u8], n: usize, answer: LabelsAnswer) -> usize {
+    match answer {
+        LabelsAnswer::Written(count) => answer::ok_number(out, n, count),
+        LabelsAnswer::Refused(refusal) => answer::refused(out, n, refusal),
+    }
+}
+
+// The slices lent for labels.
+fn fill_labels(flags: &mut [u8], noises: &mut [f32], baselines: &mut [f32]) {
+    request::fill(flags);
+    request::fill_f32(noises);
+    request::fill_f32(baselines);
+}
+
+fn put_slices(out: &mut [u8], n: usize, flags: &[u8], noises: &[f32], baselines: &[f32]) -> usize {
+    let n = answer::slice8(out, n, flags);
+    let n = answer::slice_f32(out, n, noises);
+    answer::slice_f32(out, n, baselines)
+}
+
+// A label for each mass, and the slices that are lent for them.
+fn put_labels(
+    masses: &[f64],
+    nodes: &[u8],
+    flags: &mut [u8],
+    noises: &mut [f32],
+    baselines: &mut [f32],
+    out: &mut [u8],
+    n: usize,
+) -> usize {
+    fill_labels(flags, noises, baselines);
+    let answer = label_peaks(masses, nodes, flags, noises, baselines);
+    let n = put_count(out, n, answer);
+    put_slices(out, n, flags, noises, baselines)
+}
+
+fn lend_labels(
+    masses: &[f64],
+    nodes: &[u8],
+    f: usize,
+    lent: Lengths,
+    out: &mut [u8],
+    n: usize,
+) -> usize
+    requires { ⌜ (f ≤ 64) × (lent .first ≤ 64) × (lent .second ≤ 64) ⌝ }
+{
+    let mut flags = [0u8; 64];
+    let mut noises = [0.0f32; 64];
+    let mut baselines = [0.0f32; 64];
+    let m = lent.first;
+    let b = lent.second;
+    put_labels(
+        masses,
+        nodes,
+        &mut flags[0..f],
+        &mut noises[0..m],
+        &mut baselines[0..b],
+        out,
+        n,
+    )
+}
+
+pub(crate) fn labels(line: &[u8], at: usize, data: &mut [u8], out: &mut [u8], n: usize) -> usize {
+    let mut masses = [0.0f64; 64];
+    let list = request::f64s(line, at, data, &mut masses);
+    let f = request::number(line, list.end, LENT);
+    let lent = request::lent_lengths(line, f.end);
+    let count = request::bytes(line, lent.end, data);
+    if count.end != line.len() {
+        return answer::bad(out, n);
+    }
+    let nodes = request::front(data, count.value);
+    let k = request::lent_length(list.value);
+    let f = request::lent_length(f.value);
+    lend_labels(&masses[0..k], nodes, f, lent, out, n)
+}

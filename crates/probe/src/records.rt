@@ -1,0 +1,155 @@
+// Flat and SRM records: the crates `flat` and `srm`.
+use crate::answer;
+use crate::packets;
+use crate::request;
+use crate::request::U32;
+use crate::request::U64;
+use flat::read_flat_peaks;
+use peaks::PeaksAnswer;
+use srm::WindowsAnswer;
+use srm::read_scan_srm_v66;
+use srm::read_scan_srm_v66_windows;
+
+// Which function reads the peaks, and what it is given beside the run and the two places.
+enum Reading {
+    Flat(u32),
+    Srm,
+}
+
+// The fields DATA and OFFSET, and where they end.
+struct Places {
+    data: u64,
+    offset: u64,
+    end: usize,
+}
+
+fn two_places(line: &[u8], at: usize) -> Places {
+    let data = request::number(line, at, U64);
+    let offset = request::number(line, data.end, U64);
+    Places {
+        data: data.value,
+        offset: offset.value,
+        end: offset.end,
+    }
+}
+
+fn read(
+    reading: Reading,
+    run: &[u8],
+    places: Places,
+    masses: &mut [u64],
+    abundances: &mut [u32],
+) -> PeaksAnswer {
+    match reading {
+        Reading::Flat(size) => {
+            read_flat_peaks(run, places.data, places.offset, size, masses, abundances)
+        }
+        Reading::Srm => read_scan_srm_v66(run, places.data, places.offset, masses, abundances),
+    }
+}
+
+// The peaks of a record, and the slices that are lent for them.
+fn put_peaks(
+    reading: Reading,
+    run: &[u8],
+    places: Places,
+    masses: &mut [u64],
+    abundances: &mut [u32],
+    out: &mut [u8],
+    n: usize,
+) -> usize {
+    request::fill64(masses);
+    request::fill32(abundances);
+    let answer = read(reading, run, places, masses, abundances);
+    let n = packets::put_count(out, n, answer);
+    let n = answer::slice64(out, n, masses);
+    answer::slice32(out, n, abundances)
+}
+
+// The fields from M on, and the answer by either function.
+fn peaks_by(
+    reading: Reading,
+    places: Places,
+    line: &[u8],
+    at: usize,
+    data: &mut [u8],
+    out: &mut [u8],
+    n: usize,
+) -> usize {
+    let lent = request::lent_lengths(line, at);
+    let count = request::bytes(line, lent.end, data);
+    if count.end != line.len() {
+        return answer::bad(out, n);
+    }
+    let run = request::front(data, count.value);
+    let mut masses = [0u64; 64];
+    let mut abundances = [0u32; 64];
+    let m = lent.first;
+    let a = lent.second;
+    put_peaks(
+        reading,
+        run,
+        places,
+        &mut masses[0..m],
+        &mut abundances[0..a],
+        out,
+        n,
+    )
+}
+
+pub(crate) fn flat(line: &[u8], at: usize, data: &mut [u8], out: &mut [u8], n: usize) -> usize {
+    let places = two_places(line, at);
+    let size = request::number(line, places.end, U32);
+    let reading = Reading::Flat(request::narrow(size.value));
+    peaks_by(reading, places, line, size.end, data, out, n)
+}
+
+pub(crate) fn srm(line: &[u8], at: usize, data: &mut [u8], out: &mut [u8], n: usize) -> usize {
+    let places = two_places(line, at);
+    peaks_by(Reading::Srm, places, line, places.end, data, out, n)
+}
+
+fn put_window_count(out: &mut [u8], n: usize, answer: WindowsAnswer) -> usize {
+    match answer {
+        WindowsAnswer::Windows(count) => answer::ok_number(out, n, count),
+        WindowsAnswer::Refused(refusal) => answer::refused(out, n, refusal),
+    }
+}
+
+// The windows of a record, and the slices that are lent for them.
+fn put_windows(
+    run: &[u8],
+    places: Places,
+    lows: &mut [u32],
+    highs: &mut [u32],
+    out: &mut [u8],
+    n: usize,
+) -> usize {
+    request::fill32(lows);
+    request::fill32(highs);
+    let answer = read_scan_srm_v66_windows(run, places.data, places.offset, lows, highs);
+    let n = put_window_count(out, n, answer);
+    let n = answer::slice32(out, n, lows);
+    answer::slice32(out, n, highs)
+}
+
+pub(crate) fn srm_windows(
+    line: &[u8],
+    at: usize,
+    data: &mut [u8],
+    out: &mut [u8],
+    n: usize,
+) -> usize {
+    let places = two_places(line, at);
+    let lent = request::lent_lengths(line, places.end);
+    let count = request::bytes(line, lent.end, data);
+    if count.end != line.len() {
+        return answer::bad(out, n);
+    }
+    let run = request::front(data, count.value);
+    let mut lows = [0u32; 64];
+    let mut highs = [0u32; 64];
+    let l = lent.first;
+    let h = lent.second;
+    put_windows(run, places, &mut lows[0..l], &mut highs[0..h], out, n)
+}
