@@ -4,19 +4,22 @@ use Prim.Native.Nat.{ℕ, _+_, _*_, _-_, _^_, _≤_, _<_}
 use native.Mathlib.Nat.{le-refl}
 use native.Mathlib.Omega.{arith}
 use mathlib.Core.List.{List}
+use lib.Dec.{lit≤}
+use Rattle.refusal.specs.Outcome.{ok}
 use Rattle.parser.specs.Parser.{done, repeat}
 use Rattle.parser.specs.Call.{single}
 use Rattle.parser.specs.LongerBytes.{PrefixProperty, Completes}
 use Rattle.parser.specs.Fixed.{Sized}
 use Rattle.parser.proofs.Fixed.{sized-bind}
 use Rattle.parser.proofs.Completion.{Bounded, extent, extent-sized, extent-bind-le, bounded-sized, bounded-bind, bounded-more, Yields, yields-word, yields-any, yields-bind}
+use Rattle.parser.proofs.Asks.{Asks, Any}
 use Rattle.parser.proofs.Calls.{prefix-property, single-completes}
 use Rattle.preamble.specs.Size.{sizeForVersion}
 use Rattle.reaction.specs.Reactions.{Reaction}
 use Rattle.scan_event.specs.Event.{handOut}
 use Rattle.scan_event.specs.declared.Lent.{Lent}
 use Rattle.scan_event.proofs.HandOut.{hand-out-settled}
-use Rattle.event_before_66.specs.Layout.{head, reaction, Middle, middle, tail, event, before66, readBefore66}
+use Rattle.event_before_66.specs.Layout.{head, reaction, Middle, middle, tail, event, before66, sizesOf, findSizes, readBefore66}
 use Rattle.event_before_66.proofs.Stages.{behind, head-sized, middle-sized, tail-sized, size-most}
 use Rattle.event_before_66.proofs.Answers.{more, rest}
 
@@ -62,13 +65,27 @@ module _ (preamble : List ℕ) where
 HeadCounted : List ℕ × ℕ → Type 0
 HeadCounted h = h .1 < 256 ^ 4
 
-before66-bounded : (version : ℕ) → Bounded far (2 ^ 62 - 1) (before66 version)
+pub before66-asks : (version : ℕ) → Asks far (2 ^ 39) Any (before66 version)
 unfolding before66 rest more head HeadCounted
-before66-bounded version =
+before66-asks version =
     let size = sizeForVersion version + 4 in
-    bounded-more far (size + (2 ^ 38 + 2 ^ 36)) (2 ^ 62 - 1) (before66 version) (omega (arith, size-most version))
-    (bounded-bind HeadCounted rest far size (2 ^ 38 + 2 ^ 36) (λ h. rest-extent (h .0) (h .1)) (λ h c. bounded-more far (2 ^ 38 + 2 ^ 36) (size + (2 ^ 38 + 2 ^ 36)) (rest h) (omega arith) (rest-bounded (h .0) (h .1) c))
-    (head version) (λ _ _ _ bs l p. yields-word 4 bs l p) (bounded-sized far size size (head version) (le-refl size) (head-sized version)))
+    record {
+      bounded =
+          bounded-more far (size + (2 ^ 38 + 2 ^ 36)) (2 ^ 39) (before66 version) (omega (arith, size-most version))
+          (bounded-bind HeadCounted rest far size (2 ^ 38 + 2 ^ 36) (λ h. rest-extent (h .0) (h .1)) (λ h c. bounded-more far (2 ^ 38 + 2 ^ 36) (size + (2 ^ 38 + 2 ^ 36)) (rest h) (omega arith) (rest-bounded (h .0) (h .1) c))
+          (head version) (λ _ _ _ bs l p. yields-word 4 bs l p) (bounded-sized far size size (head version) (le-refl size) (head-sized version)));
+      zeros =
+          omega (
+            arith,
+            extent-bind-le HeadCounted rest far size (2 ^ 38 + 2 ^ 36) (λ h. rest-extent (h .0) (h .1)) (head version) (λ _ _ _ bs l p. yields-word 4 bs l p),
+            extent-sized size (head version) (head-sized version),
+            size-most version,
+          );
+      yields = yields-any (before66 version);
+    }
+
+before66-bounded : (version : ℕ) → Bounded far (2 ^ 62 - 1) (before66 version)
+before66-bounded version = bounded-more far (2 ^ 39) (2 ^ 62 - 1) (before66 version) (lit≤ tt) (before66-asks version .bounded)
 
 pub before66-prefix : (version : ℕ) (lent : Lent) (at : ℕ) → PrefixProperty (readBefore66 version lent at)
 unfolding readBefore66
@@ -77,3 +94,11 @@ before66-prefix version lent at = prefix-property (single 3 at (before66 version
 pub before66-completes : (version : ℕ) (lent : Lent) (at : ℕ) → Completes 3 at (readBefore66 version lent at)
 unfolding readBefore66
 before66-completes version lent at = single-completes 3 at (before66 version) (handOut lent) (before66-bounded version) (hand-out-settled lent)
+
+pub sizes-prefix : (version at : ℕ) → PrefixProperty (findSizes version at)
+unfolding findSizes
+sizes-prefix version at = prefix-property (single 3 at (before66 version) (λ e _. ok (sizesOf e)))
+
+pub sizes-completes : (version at : ℕ) → Completes 3 at (findSizes version at)
+unfolding findSizes
+sizes-completes version at = single-completes 3 at (before66 version) (λ e _. ok (sizesOf e)) (before66-bounded version) (λ _ _. tt)

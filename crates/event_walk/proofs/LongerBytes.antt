@@ -1,11 +1,19 @@
--- The answer stands for longer bytes: where an event ends, and where the k-th starts.
+-- Demand 3 for where an event ends, and where the k-th starts. Body sizes have 32 bits, and k has 16.
 -- Assumes nothing.
-use Prim.Native.Nat.{ℕ}
+use Prim.Native.Nat.{ℕ, _+_, _*_, _-_, _^_, _<_}
+use native.Mathlib.Omega.{arith}
+use lib.Dec.{leb, lit≤}
 use Rattle.refusal.specs.Outcome.{ok}
 use Rattle.parser.specs.Parser.{repeat}
 use Rattle.parser.specs.Call.{single}
-use Rattle.parser.specs.LongerBytes.{PrefixProperty}
-use Rattle.parser.proofs.Calls.{prefix-property}
+use Rattle.parser.specs.LongerBytes.{PrefixProperty, Completes}
+use Rattle.parser.proofs.Completion.{bounded-more}
+use Rattle.parser.proofs.Asks.{Asks, Any, asks-cond, asks-repeat}
+use Rattle.parser.proofs.Calls.{prefix-property, single-completes}
+use Rattle.event_before_66.specs.Layout.{before66}
+use Rattle.event_before_66.proofs.LongerBytes.{before66-asks}
+use Rattle.event_from_66.specs.Layout.{from66}
+use Rattle.event_from_66.proofs.LongerBytes.{from66-asks}
 use Rattle.event_walk.specs.Walk.{event, eventEnd, eventPlace}
 
 module _ (version primary dependent : ℕ) where
@@ -16,3 +24,22 @@ module _ (version primary dependent : ℕ) where
   pub event-place-prefix : (start k : ℕ) → PrefixProperty (eventPlace version primary dependent start k)
   unfolding eventPlace
   event-place-prefix start k = prefix-property (single 3 start (repeat k (event version primary dependent)) (λ _ next. ok next))
+
+  module _ (p : primary < 2 ^ 32) (d : dependent < 2 ^ 32) where
+    pub event-asks : Asks (2 ^ 62) (2 ^ 39) Any (event version primary dependent)
+    unfolding event
+    event-asks = asks-cond (2 ^ 62) (2 ^ 39) (leb 66 version) Any (from66 primary dependent) (before66 version) (from66-asks primary dependent p d) (before66-asks version)
+
+    pub event-end-completes : (at : ℕ) → Completes 3 at (eventEnd version primary dependent at)
+    unfolding eventEnd
+    event-end-completes at =
+        single-completes 3 at (event version primary dependent) (λ _ next. ok next)
+        (bounded-more (2 ^ 62) (2 ^ 39) (2 ^ 62 - 1) (event version primary dependent) (lit≤ tt) (event-asks .bounded)) (λ _ _. tt)
+
+    pub event-place-completes : (start k : ℕ) → k < 2 ^ 16 → Completes 3 start (eventPlace version primary dependent start k)
+    unfolding eventPlace
+    event-place-completes start k small =
+        let one = event version primary dependent in
+        single-completes 3 start (repeat k one) (λ _ next. ok next)
+        (bounded-more (2 ^ 62) (2 ^ 39 + k * 2 ^ 39) (2 ^ 62 - 1) (repeat k one) (omega arith) (asks-repeat (2 ^ 62) (2 ^ 39) (2 ^ 39) k one Any event-asks (event-asks .zeros) .bounded))
+        (λ _ _. tt)

@@ -57,12 +57,12 @@ pub fn event_end(
     end_before_66(run, at, version)
 }
 
-// Where the k-th of the events from a place on starts. Each event passed is there, so a k beyond the run costs no more turns
-// than the run has events.
+// Where the k-th of the events from a place on starts. Sixteen bits are enough for a tray's scans, and k events of any size
+// fit into what a slice can hold.
 pub fn event_place(
     run: &[u8],
     start: u64,
-    k: u64,
+    k: u16,
     version: u32,
     body_primary: u32,
     body_dependent: u32,
@@ -70,7 +70,7 @@ pub fn event_place(
     ensures { λ r. ⌜ told r ≡ eventPlace version «body_primary» «body_dependent» start k (now (run .entry)) ⌝ }
 {
     let mut at = start;
-    let mut i: u64 = 0;
+    let mut i: u16 = 0;
     while i < k {
         match event_end(run, at, version, body_primary, body_dependent) {
             EventPlace::Refused(r) => return EventPlace::Refused(r),

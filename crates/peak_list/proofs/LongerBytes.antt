@@ -6,6 +6,7 @@ use native.Mathlib.Omega.{arith}
 use mathlib.Core.Bool.{Bool, true, false}
 use mathlib.Core.List.{List, []}
 use lib.Dec.{eqb, lit≤}
+use Rattle.refusal.specs.Outcome.{ok}
 use Rattle.parser.specs.Parser.{done, word, skip, _>>=_}
 use Rattle.parser.specs.Call.{single}
 use Rattle.parser.specs.LongerBytes.{PrefixProperty, Completes}
@@ -18,7 +19,7 @@ use Rattle.packet_header.specs.declared.PacketHeader.{PacketHeader}
 use Rattle.packet_header.proofs.LongerBytes.{Sizable, header-asks}
 use Rattle.peaks.specs.Peaks.{Peak, handOut}
 use Rattle.peaks.proofs.Results.{hand-out-settled}
-use Rattle.peak_list.specs.PeakList.{isWide, itemSize, counted, peakList, skipping, readPeaksOnly}
+use Rattle.peak_list.specs.PeakList.{isWide, itemSize, counted, peakList, located, readPeaks, skipping, both, skipToPeaks, readPeaksOnly}
 use Rattle.peak_list.proofs.Lists.{counted-sized}
 use Rattle.peak_list.proofs.Skipping.{paired, rest}
 
@@ -61,3 +62,24 @@ peaks-only-completes m a at =
     single-completes 4 at skipping (λ (p : PacketHeader × List Peak) _. handOut m a (p .1))
     (bounded-more (2 ^ 62) (40 + (2 ^ 34 + (4 + 2 ^ 36))) (2 ^ 62 - 1) skipping (lit≤ tt) (skipping-asks (2 ^ 62) .bounded))
     (λ p _. hand-out-settled m a (p .1))
+
+-- the calls that find
+pub skip-to-peaks-prefix : (at : ℕ) → PrefixProperty (skipToPeaks at)
+unfolding skipToPeaks
+skip-to-peaks-prefix at = prefix-property (single 4 at skipping (λ p next. ok (both p next)))
+
+pub skip-to-peaks-completes : (at : ℕ) → Completes 4 at (skipToPeaks at)
+unfolding skipToPeaks
+skip-to-peaks-completes at =
+    single-completes 4 at skipping (λ p next. ok (both p next))
+    (bounded-more (2 ^ 62) (40 + (2 ^ 34 + (4 + 2 ^ 36))) (2 ^ 62 - 1) skipping (lit≤ tt) (skipping-asks (2 ^ 62) .bounded)) (λ _ _. tt)
+
+pub peak-list-prefix : (h : PacketHeader) (at : ℕ) → PrefixProperty (readPeaks h at)
+unfolding readPeaks
+peak-list-prefix h at = prefix-property (single 4 at (peakList h) (λ peaks next. ok (located h peaks next)))
+
+pub peak-list-completes : (h : PacketHeader) (at : ℕ) → Completes 4 at (readPeaks h at)
+unfolding readPeaks
+peak-list-completes h at =
+    single-completes 4 at (peakList h) (λ peaks next. ok (located h peaks next))
+    (bounded-more (2 ^ 62) (4 + 2 ^ 36) (2 ^ 62 - 1) (peakList h) (lit≤ tt) (peak-list-asks (2 ^ 62) h .bounded)) (λ _ _. tt)

@@ -1,14 +1,18 @@
 -- What a profile asks for behind the end of the bytes: zeros make every further chunk empty.
 -- Assumes nothing.
-use Prim.Native.Nat.{ℕ, _+_, _*_, _^_, _≤_, _<_}
+use Prim.Native.Nat.{ℕ, _+_, _*_, _-_, _^_, _≤_, _<_}
 use native.Mathlib.Omega.{arith}
 use mathlib.Core.Bool.{Bool, true, false}
 use mathlib.Core.List.{List}
 use lib.Dec.{lit≤}
+use Rattle.refusal.specs.Outcome.{ok}
 use Rattle.parser.specs.Parser.{done, repeat, _>>=_}
-use Rattle.parser.proofs.Completion.{extent, Yields, yields-word}
+use Rattle.parser.specs.Call.{single}
+use Rattle.parser.specs.LongerBytes.{PrefixProperty, Completes}
+use Rattle.parser.proofs.Completion.{extent, bounded-more, Yields, yields-word}
+use Rattle.parser.proofs.Calls.{prefix-property, single-completes}
 use Rattle.parser.proofs.Asks.{Asks, Any, asks-sized, asks-known, asks-more, asks-done, asks-ahead, asks-repeat, asks-bind}
-use Rattle.profile.specs.Profile.{isFudged, Head, head, headSize, Chunk, values, chunk, Axis, axis, chunks, profile}
+use Rattle.profile.specs.Profile.{isFudged, Head, head, headSize, Chunk, values, chunk, Axis, axis, chunks, profile, located, readProfile}
 use Rattle.profile.proofs.Chunks.{whole, rest, head-sized, values-sized}
 use Rattle.profile.proofs.Answers.{axis-sized, paired}
 use Rattle.profile.proofs.Answers.{rest as behind}
@@ -69,3 +73,14 @@ module _ (far : ℕ) where
   unfolding profile behind paired
   profile-asks layout =
       asks-bind far 24 (2 ^ 37) PeakCounted Any (behind layout) (behind-asks layout) axis (asks-known far 24 axis Any PeakCounted (asks-sized far 24 axis axis-sized) axis-counted)
+
+-- demand 3
+pub profile-prefix : (layout at : ℕ) → PrefixProperty (readProfile layout at)
+unfolding readProfile
+profile-prefix layout at = prefix-property (single 4 at (profile layout) (λ p next. ok (located layout at p, next)))
+
+pub profile-completes : (layout at : ℕ) → Completes 4 at (readProfile layout at)
+unfolding readProfile
+profile-completes layout at =
+    single-completes 4 at (profile layout) (λ p next. ok (located layout at p, next))
+    (bounded-more (2 ^ 62) (24 + 2 ^ 37) (2 ^ 62 - 1) (profile layout) (lit≤ tt) (profile-asks (2 ^ 62) layout .bounded)) (λ _ _. tt)
