@@ -1,18 +1,18 @@
 -- Where an event ends, by the tests that decide it, and the walk over k of them.
 -- Assumes nothing.
 use mathlib.Core.Path.{_≡_, refl, sym, subst, _∙_}
-use Prim.Native.Nat.{ℕ, suc, _+_, _*_, _-_, _≤_, _<_}
+use Prim.Native.Nat.{ℕ, suc, _+_, _-_, _≤_, _<_}
 use native.Mathlib.Nat.{sub-zero}
 use native.Mathlib.Omega.{arith}
 use mathlib.Core.Bool.{Bool, cond}
 use mathlib.Core.List.{List, _∷_}
 use borrow.Author.Tests.{le-leb, lt-leb}
 use Rattle.refusal.specs.Outcome.{Outcome, ok, refused, ranOut}
-use Rattle.parser.specs.Parser.{Parser, Parsed, short, parsed, parse, repeat, bytes, le, left}
+use Rattle.parser.specs.Parser.{Parser, Parsed, short, parsed, parse, repeat, bytes, left}
 use Rattle.parser.specs.Call.{onward, outcome}
 use Rattle.parser.proofs.Prefix.{after}
 use Rattle.parser.proofs.Walk.{parse-repeat}
-use Rattle.parser.proofs.Answered.{found, RanOut, ran-out}
+use Rattle.parser.proofs.Answered.{found, ran-out}
 use Rattle.preamble.specs.Settings.{isPrimary}
 use Rattle.scan_event.specs.Event.{Event}
 use Rattle.event_before_66.specs.Layout.{before66, sizesOf, findSizes}

@@ -1,6 +1,6 @@
 -- What reading the label streams answers: one test judges them all.
 -- Assumes nothing.
-use mathlib.Core.Path.{_≡_, refl, ap, sym, subst, _∙_}
+use mathlib.Core.Path.{_≡_, refl, sym, subst, _∙_}
 use Prim.Native.Nat.{ℕ, _+_, _*_, _-_, _/_, _≤_, _<_}
 use native.Mathlib.Nat.{add-zero, zero-add}
 use native.Mathlib.Omega.{arith}
@@ -11,7 +11,7 @@ use borrow.Author.Tests.{le-leb, lt-leb, leb-true}
 use Rattle.refusal.specs.Outcome.{ok, refused, ranOut}
 use Rattle.lists.specs.Written.{each}
 use Rattle.lists.proofs.Laws.{length-each}
-use Rattle.parser.specs.Parser.{Parser, done, short, parsed, within, parse, bytes, le, left, _>>=_}
+use Rattle.parser.specs.Parser.{Parser, done, parsed, within, parse, bytes, le, left, _>>=_}
 use Rattle.parser.specs.Call.{outcome}
 use Rattle.parser.specs.Fixed.{Sized, value}
 use Rattle.parser.proofs.Prefix.{within-parsed}

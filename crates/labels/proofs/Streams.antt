@@ -3,17 +3,16 @@
 use mathlib.Core.Path.{_≡_, refl, ap, sym, subst, _∙_}
 use mathlib.Core.Logic.{⊎-elim}
 use Prim.Native.Nat.{ℕ, _+_, _*_, _-_, _/_, _≤_, _<_}
-use native.Mathlib.Nat.{add-zero, zero-add, add-assoc}
+use native.Mathlib.Nat.{add-zero, add-assoc}
 use native.Mathlib.Omega.{arith}
 use mathlib.Core.Bool.{Bool, true, false, _&&_, cond}
 use mathlib.Core.List.{List, []}
 use lib.Dec.{leb, eqb}
-use lib.ListN.{length}
 use borrow.Author.Tests.{le-leb, lt-leb, eq-eqb, ne-eqb, eqb-true}
 use Rattle.lists.specs.Written.{each}
 use Rattle.lists.proofs.Cases.{bool-cases, and-true}
-use Rattle.lists.proofs.Laws.{each-none, each-same, length-each}
-use Rattle.parser.specs.Parser.{Parser, done, bytes, le, raw, word, skip, repeat, _>>=_, _>>_}
+use Rattle.lists.proofs.Laws.{each-none, each-same}
+use Rattle.parser.specs.Parser.{Parser, done, bytes, le, raw, word, skip, _>>=_, _>>_}
 use Rattle.parser.specs.Fixed.{Sized, value}
 use Rattle.parser.proofs.Fixed.{sized-raw, sized-word, sized-bind, sized-ahead, sized-cond, sized-counted, value-each}
 use Rattle.labels.specs.Labels.{words, passed, isKept, keptCount, descriptors, resolutions, triplets}

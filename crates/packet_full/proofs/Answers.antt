@@ -5,14 +5,14 @@ use mathlib.Core.Logic.{_⊎_, inl, inr, ⊎-elim}
 use Prim.Native.Nat.{ℕ, _+_}
 use native.Mathlib.Omega.{arith}
 use mathlib.Core.Bool.{Bool, true, false, cond}
-use mathlib.Core.List.{List, []}
+use mathlib.Core.List.{List}
 use lib.Dec.{eqb}
 use lib.ListN.{length}
 use Rattle.refusal.specs.Outcome.{Outcome, ok, refused}
 use Rattle.refusal.proofs.Outcomes.{made-of}
 use Rattle.labels.specs.Labels.{readLabels}
 use Rattle.labels.specs.declared.Labels.{Labels}
-use Rattle.parser.specs.Parser.{Parser, done, short, parsed, parse, repeat, _>>=_}
+use Rattle.parser.specs.Parser.{done, parsed, parse, _>>=_}
 use Rattle.parser.specs.Walk.{sum}
 use Rattle.parser.specs.Call.{outcome}
 use Rattle.parser.proofs.Prefix.{parts}
@@ -24,12 +24,11 @@ use Rattle.peak_list.specs.PeakList.{readPeaks}
 use Rattle.peak_list.specs.declared.PeakList.{PeakList}
 use Rattle.profile.specs.Profile.{Axis, Chunk, points, chunk, profile, located}
 use Rattle.profile.proofs.Answers.{profile-chunks}
-use Rattle.scan_packet.specs.Packet.{Stored, absent, present, describeProfile, describe}
-use Rattle.scan_packet.specs.Places.{withLabels, describePlaces}
+use Rattle.scan_packet.specs.Packet.{Stored, absent, present, describeProfile}
+use Rattle.scan_packet.specs.Places.{withLabels}
 use Rattle.scan_packet.specs.declared.Lent.{Lent}
 use Rattle.scan_packet.specs.declared.PacketProfile.{PacketProfile}
 use Rattle.scan_packet.specs.declared.Places.{Places}
-use Rattle.scan_packet.specs.declared.ScanDataPacket.{ScanDataPacket}
 use Rattle.scan_packet.proofs.Found.{Stands, decoded-is, room-is}
 use Rattle.packet_full.specs.Full.{stored, packet, chunksOf, handOut, readPacket}
 use Rattle.packet_full.specs.Judged.{andThen, findProfile, behindHeader, findPlaces, chunkList, chunksAt, ProfileThere, chunkCount, pointCount, handPlaces}

@@ -1,9 +1,8 @@
 -- Demand 3 for a whole packet.
 -- Assumes nothing.
 use Prim.Native.Nat.{ℕ, _+_, _*_, _-_, _^_}
-use native.Mathlib.Omega.{arith}
 use mathlib.Core.Bool.{_&&_}
-use mathlib.Core.List.{List, []}
+use mathlib.Core.List.{[]}
 use lib.Dec.{eqb, lit≤}
 use lib.ListN.{length}
 use Rattle.refusal.specs.Outcome.{ok, refused}
@@ -21,7 +20,7 @@ use Rattle.peak_list.specs.PeakList.{peakList}
 use Rattle.peak_list.proofs.LongerBytes.{peak-list-asks}
 use Rattle.profile.specs.Profile.{points, profile}
 use Rattle.profile.proofs.LongerBytes.{profile-asks}
-use Rattle.scan_packet.specs.Packet.{Stored, absent, present, Packet, behindPeaks, decoded, room}
+use Rattle.scan_packet.specs.Packet.{absent, present, Packet, behindPeaks, decoded, room}
 use Rattle.scan_packet.specs.declared.Lent.{Lent}
 use Rattle.scan_packet.proofs.LongerBytes.{behind-asks}
 use Rattle.packet_full.specs.Full.{stored, packet, columns, chunksOf, chunkRoom, handOut, readPacket}

@@ -2,38 +2,32 @@
 -- Assumes nothing.
 use mathlib.Core.Path.{_≡_, refl, ap, sym, subst, _∙_}
 use Prim.Native.Nat.{ℕ, _+_}
-use native.Mathlib.Omega.{arith}
-use mathlib.Core.Bool.{true, false}
-use mathlib.Core.List.{List, []}
-use lib.Dec.{eqb}
+use mathlib.Core.List.{List}
 use lib.ListN.{length}
 use borrow.Author.Tests.{eq-eqb, ne-eqb}
 use Rattle.refusal.specs.Outcome.{Outcome, ok, refused}
-use Rattle.parser.specs.Parser.{Parser, done, short, parsed, parse, repeat, _>>=_}
-use Rattle.parser.specs.Walk.{sum}
+use Rattle.parser.specs.Parser.{Parser, done, parsed, parse, _>>=_}
 use Rattle.parser.specs.Call.{outcome}
-use Rattle.parser.proofs.Prefix.{parse-bind, parts}
-use Rattle.parser.proofs.Walk.{length-parsed}
-use Rattle.parser.proofs.Answered.{Found, found, RanOut, ran-out}
+use Rattle.parser.proofs.Prefix.{parse-bind}
+use Rattle.parser.proofs.Answered.{found, RanOut, ran-out}
 use Rattle.packet_header.specs.Header.{header, readHeader}
 use Rattle.packet_header.specs.declared.PacketHeader.{PacketHeader}
-use Rattle.packet_header.proofs.Size.{header-read, header-ran-out}
+use Rattle.packet_header.proofs.Size.{header-read}
 use Rattle.peaks.specs.Peaks.{Peak, peaksAt}
 use Rattle.peak_list.specs.PeakList.{itemSize, peakList, located, readPeaks}
 use Rattle.peak_list.specs.declared.PeakList.{PeakList}
 use Rattle.peak_list.proofs.Lists.{located-peaks}
-use Rattle.profile.specs.Profile.{Axis, Chunk, points, chunk, profile, readProfile}
-use Rattle.profile.specs.Profile.{located as locatedProfile}
+use Rattle.profile.specs.Profile.{Axis, Chunk, profile, readProfile}
 use Rattle.profile.specs.declared.Profile.{Profile}
-use Rattle.profile.proofs.Answers.{profiled, unprofiled, profile-chunks}
-use Rattle.scan_packet.specs.Packet.{Stored, absent, present, Packet, behindPeaks, describeProfile}
+use Rattle.profile.proofs.Answers.{profiled, unprofiled}
+use Rattle.scan_packet.specs.Packet.{Stored, present, Packet, behindPeaks, describeProfile}
 use Rattle.scan_packet.specs.Places.{withLabels}
 use Rattle.scan_packet.specs.declared.PacketProfile.{PacketProfile}
 use Rattle.scan_packet.specs.declared.PacketProfile.the-variants.{Absent, Present}
 use Rattle.scan_packet.specs.declared.Places.{Places}
 use Rattle.scan_packet.proofs.Found.{Stands, ran-out-behind, found-behind}
-use Rattle.packet_full.specs.Full.{stored, packet, chunksOf}
-use Rattle.packet_full.specs.Judged.{andThen, findProfile, behindHeader, findPlaces, listOf, chunkList, chunksAt, Parsing, ProfileThere, chunkCount, pointCount}
+use Rattle.packet_full.specs.Full.{stored, packet}
+use Rattle.packet_full.specs.Judged.{findProfile, behindHeader}
 
 -- what is made of a profile, and what follows it and the header
 unfoldable pub keep : Axis × List Chunk → Parser Stored

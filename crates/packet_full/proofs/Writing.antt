@@ -13,7 +13,7 @@ use Rattle.parser.specs.Parser.{parsed, bytes, le, left, parse, repeat}
 use Rattle.parser.specs.Walk.{sum}
 use Rattle.parser.proofs.Walk.{FirstOf, first-of}
 use Rattle.profile.specs.Profile.{headSize, Chunk, points, chunk, fudgeAt}
-use Rattle.profile.proofs.Chunks.{Whole, whole-chunk, chunkAt}
+use Rattle.profile.proofs.Chunks.{Whole, whole-chunk}
 use Rattle.packet_full.specs.Full.{columns, signals}
 
 -- a column of the chunks that are done, over the front of its slice

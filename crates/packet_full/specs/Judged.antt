@@ -3,7 +3,6 @@ use mathlib.Core.Path.{_≡_}
 use Prim.Native.Nat.{ℕ, _+_, _≤_}
 use mathlib.Core.Bool.{Bool, _&&_, cond}
 use mathlib.Core.List.{List, []}
-use lib.ListN.{length}
 use Rattle.refusal.specs.Outcome.{Outcome, ok, refused}
 use Rattle.refusal.specs.Number.{toldRefusal}
 use Rattle.parser.specs.Parser.{Parsed, short, parsed, parse, repeat}
@@ -12,7 +11,6 @@ use Rattle.parser.specs.Call.{outcome, single}
 use Rattle.packet_header.specs.Header.{readHeader}
 use Rattle.packet_header.specs.declared.PacketHeader.{PacketHeader}
 use Rattle.peak_list.specs.PeakList.{readPeaks}
-use Rattle.peak_list.specs.declared.PeakList.{PeakList}
 use Rattle.profile.specs.Profile.{Chunk, points, chunk}
 use Rattle.profile.specs.declared.Profile.{Profile}
 use Rattle.scan_packet.specs.Packet.{describeProfile, Decoded, hasRoom}
@@ -21,7 +19,7 @@ use Rattle.scan_packet.specs.declared.Lent.{Lent}
 use Rattle.scan_packet.specs.declared.PacketProfile.{PacketProfile}
 use Rattle.scan_packet.specs.declared.PacketProfile.the-variants.{Absent, Present}
 use Rattle.scan_packet.specs.declared.Places.{Places}
-use Rattle.packet_full.specs.Full.{stored, Columns, columns, signals, chunkRoom}
+use Rattle.packet_full.specs.Full.{stored, Columns, columns, chunkRoom}
 use Rattle.packet_full.specs.declared.ChunkLent.{ChunkLent}
 use Rattle.packet_full.specs.declared.FoundProfile.{FoundProfile}
 use Rattle.packet_full.specs.declared.FoundProfile.the-variants as profile

@@ -2,11 +2,10 @@
 -- Assumes nothing.
 use mathlib.Core.Path.{_≡_, sym, _∙_}
 use Prim.Native.Nat.{ℕ, _+_, _≤_, _<_}
-use mathlib.Core.Bool.{true}
 use mathlib.Core.List.{List}
 use lib.Dec.{leb}
 use borrow.Author.Tests.{leb-true, le-leb, lt-leb}
-use Rattle.refusal.specs.Outcome.{Outcome, ok, refused, ranOut}
+use Rattle.refusal.specs.Outcome.{ok, refused, ranOut}
 use Rattle.parser.specs.Parser.{short, parsed, left, parse}
 use Rattle.parser.specs.Call.{outcome}
 use Rattle.parser.specs.Fixed.{Sized, value}

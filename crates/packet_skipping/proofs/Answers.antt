@@ -1,30 +1,26 @@
 -- What reading a packet without its profile answers, by the stages that decide it.
 -- Assumes nothing.
-use mathlib.Core.Path.{_≡_, refl, ap, sym, _∙_}
+use mathlib.Core.Path.{_≡_, refl, _∙_}
 use Prim.Native.Nat.{ℕ}
-use mathlib.Core.List.{List, []}
-use lib.ListN.{length}
-use mathlib.Core.Bool.{true, false}
-use Rattle.refusal.specs.Outcome.{Outcome, ok, refused}
-use Rattle.refusal.specs.Number.{toldRefusal}
-use Rattle.refusal.specs.declared.Refusal.{Refusal}
-use Rattle.parser.specs.Parser.{Parser, short, parse, _>>=_}
+use mathlib.Core.List.{List}
+use Rattle.refusal.specs.Outcome.{ok, refused}
+use Rattle.parser.specs.Parser.{Parser, parse, _>>=_}
 use Rattle.parser.specs.Call.{outcome}
 use Rattle.parser.proofs.Prefix.{parse-bind}
-use Rattle.parser.proofs.Answered.{RanOut, ran-out}
+use Rattle.parser.proofs.Answered.{ran-out}
 use Rattle.packet_header.specs.declared.PacketHeader.{PacketHeader}
 use Rattle.peaks.specs.Peaks.{Peak}
 use Rattle.peak_list.specs.PeakList.{skipping, both, skipToPeaks}
 use Rattle.peak_list.specs.declared.HeaderAndPeaks.{HeaderAndPeaks}
 use Rattle.peak_list.proofs.Skipping.{Skipped, skipped-of}
-use Rattle.scan_packet.specs.Packet.{absent, Packet, behindPeaks, Decoded, lentOf}
+use Rattle.scan_packet.specs.Packet.{absent, Packet, behindPeaks}
 use Rattle.scan_packet.specs.Places.{withLabels}
 use Rattle.scan_packet.specs.declared.Lent.{Lent}
 use Rattle.scan_packet.specs.declared.Places.{Places}
 use Rattle.scan_packet.specs.declared.PacketProfile.the-variants.{Absent}
 use Rattle.scan_packet.specs.declared.PacketAnswer.the-variants as answer
 use Rattle.scan_packet.proofs.Found.{ran-out-behind, found-behind, decoded-is, room-is}
-use Rattle.packet_skipping.specs.Skipping.{packetSkipping, handOut, readSkipProfile, result, resultOf}
+use Rattle.packet_skipping.specs.Skipping.{packetSkipping, handOut, readSkipProfile}
 use Rattle.packet_skipping.specs.Judged.{handPlaces}
 
 -- what follows the peaks

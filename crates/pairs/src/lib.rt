@@ -5,7 +5,7 @@ ghost use mathlib.Core.Bool.{cond};
 ghost use Prim.Native.Nat.{_+_, _*_};
 ghost use lib.ListN.{length};
 ghost use Rattle.lists.specs.Written.{each, fitting};
-ghost use Rattle.parser.specs.Parser.{bytes, le, parse};
+ghost use Rattle.parser.specs.Parser.{parse};
 ghost use Rattle.parser.specs.Walk.{sum};
 ghost use Rattle.profile.specs.Profile.{points as pointsOf, chunk};
 ghost use Rattle.peaks.specs.Peaks.{peaksAt};

@@ -5,15 +5,14 @@ use Prim.Native.Nat.{ℕ, _+_, _*_, _-_, _≤_, _<_}
 use native.Mathlib.Nat.{add-zero, zero-add, add-assoc}
 use native.Mathlib.Omega.{arith}
 use mathlib.Core.Bool.{Bool, true, false}
-use mathlib.Core.List.{List, []}
+use mathlib.Core.List.{List}
 use mathlib.Core.Logic.{⊎-elim}
 use lib.Dec.{leb, eqb}
 use lib.ListN.{length}
 use borrow.Author.Tests.{le-leb, lt-leb, eq-eqb, ne-eqb, eqb-true}
 use Rattle.refusal.specs.Outcome.{ok, ranOut}
-use Rattle.lists.specs.Written.{each}
 use Rattle.lists.proofs.Laws.{each-none, each-same}
-use Rattle.parser.specs.Parser.{Parsed, short, parsed, bytes, le, left, within, parse, word, repeat, _>>=_}
+use Rattle.parser.specs.Parser.{parsed, bytes, le, left, within, parse, word, _>>=_}
 use Rattle.parser.specs.Call.{outcome}
 use Rattle.parser.specs.Fixed.{Sized, value}
 use Rattle.lists.proofs.Cases.{bool-cases}
@@ -23,7 +22,6 @@ use Rattle.packet_header.specs.declared.PacketHeader.{PacketHeader}
 use Rattle.peaks.specs.Peaks.{Peak, peak, peakAt, peaksAt}
 use Rattle.peaks.proofs.Columns.{length-peaks}
 use Rattle.peak_list.specs.PeakList.{isWide, itemSize, counted, peakList, located, readPeaks}
-use Rattle.peak_list.specs.declared.PeakList.{PeakList}
 
 peak-sized : (wide : Bool) → Sized (itemSize wide) (peak wide)
 unfolding peak

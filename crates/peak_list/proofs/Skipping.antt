@@ -1,21 +1,20 @@
 -- The header, the profile that is passed over, and the list: what was found stage by stage is what `skipping` finds.
 -- Assumes nothing.
 use mathlib.Core.Path.{_≡_, refl, ap, sym, subst, _∙_}
-use Prim.Native.Nat.{ℕ, _+_, _*_, _-_, _≤_, _<_}
-use native.Mathlib.Omega.{arith}
+use Prim.Native.Nat.{ℕ, _+_, _*_, _≤_, _<_}
 use mathlib.Core.List.{List}
 use lib.ListN.{length}
 use borrow.Author.Tests.{le-leb, lt-leb}
 use Rattle.refusal.specs.Outcome.{ok, refused, ranOut}
-use Rattle.parser.specs.Parser.{Parser, short, parsed, done, left, parse, skip, _>>=_, _>>_}
+use Rattle.parser.specs.Parser.{Parser, parsed, done, left, parse, skip, _>>=_, _>>_}
 use Rattle.parser.specs.Call.{outcome}
 use Rattle.parser.proofs.Prefix.{parse-bind, parts}
-use Rattle.parser.proofs.Answered.{Found, found, ran-out}
+use Rattle.parser.proofs.Answered.{found, ran-out}
 use Rattle.packet_header.specs.Header.{header, readHeader}
 use Rattle.packet_header.specs.declared.PacketHeader.{PacketHeader}
 use Rattle.packet_header.proofs.Size.{header-read, header-ran-out}
 use Rattle.peaks.specs.Peaks.{Peak, peaksAt, handOut}
-use Rattle.peak_list.specs.PeakList.{isWide, itemSize, peakList, located, readPeaks, skipping, both, skipToPeaks, readPeaksOnly}
+use Rattle.peak_list.specs.PeakList.{itemSize, peakList, located, readPeaks, skipping, both, skipToPeaks, readPeaksOnly}
 use Rattle.peak_list.specs.declared.PeakList.{PeakList}
 use Rattle.peak_list.specs.declared.HeaderAndPeaks.{HeaderAndPeaks}
 use Rattle.peak_list.proofs.Lists.{located-peaks}

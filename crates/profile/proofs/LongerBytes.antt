@@ -3,16 +3,15 @@
 use Prim.Native.Nat.{ℕ, _+_, _*_, _-_, _^_, _≤_, _<_}
 use native.Mathlib.Omega.{arith}
 use mathlib.Core.Bool.{Bool, true, false}
-use mathlib.Core.List.{List}
 use lib.Dec.{lit≤}
 use Rattle.refusal.specs.Outcome.{ok}
-use Rattle.parser.specs.Parser.{done, repeat, _>>=_}
+use Rattle.parser.specs.Parser.{repeat, _>>=_}
 use Rattle.parser.specs.Call.{single}
 use Rattle.parser.specs.LongerBytes.{PrefixProperty, Completes}
 use Rattle.parser.proofs.Completion.{extent, bounded-more, Yields, yields-word}
 use Rattle.parser.proofs.Calls.{prefix-property, single-completes}
 use Rattle.parser.proofs.Asks.{Asks, Any, asks-sized, asks-known, asks-more, asks-done, asks-ahead, asks-repeat, asks-bind}
-use Rattle.profile.specs.Profile.{isFudged, Head, head, headSize, Chunk, values, chunk, Axis, axis, chunks, profile, located, readProfile}
+use Rattle.profile.specs.Profile.{isFudged, Head, head, headSize, values, chunk, Axis, axis, chunks, profile, located, readProfile}
 use Rattle.profile.proofs.Chunks.{whole, rest, head-sized, values-sized}
 use Rattle.profile.proofs.Answers.{axis-sized, paired}
 use Rattle.profile.proofs.Answers.{rest as behind}

@@ -6,7 +6,7 @@ use mathlib.Core.List.{List}
 use lib.ListN.{length}
 use Rattle.refusal.specs.Outcome.{ok, refused}
 use Rattle.refusal.proofs.Outcomes.{made-of, refused-of}
-use Rattle.parser.specs.Parser.{Parser, done, short, parsed, parse, _>>=_}
+use Rattle.parser.specs.Parser.{Parser, done, parsed, parse, _>>=_}
 use Rattle.parser.proofs.Prefix.{parse-bind}
 use Rattle.parser.proofs.Answered.{RanOut}
 use Rattle.packet_header.specs.declared.PacketHeader.{PacketHeader}

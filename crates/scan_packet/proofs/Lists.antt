@@ -1,6 +1,6 @@
 -- The lists of a packet at their places, as they are copied.
 -- Assumes nothing.
-use mathlib.Core.Path.{_≡_, ap, _∙_}
+use mathlib.Core.Path.{_≡_, ap}
 use Prim.Native.Nat.{ℕ, _+_, _*_, _-_, _^_, _<_, min}
 use mathlib.Core.List.{List}
 use lib.ListN.{length}

@@ -1,7 +1,7 @@
 -- Where the lent slices have room, all of a packet's lists are written.
 -- Assumes nothing.
-use mathlib.Core.Path.{_≡_, _∙_}
-use Prim.Native.Nat.{ℕ, _≤_}
+use mathlib.Core.Path.{_≡_}
+use Prim.Native.Nat.{ℕ}
 use native.Mathlib.Omega.{arith}
 use mathlib.Core.Bool.{true, _&&_}
 use mathlib.Core.List.{List}

@@ -1,12 +1,11 @@
 -- What a packet holds, what is handed out of it, and the lent slices that it needs (`ScanDataPacket` of scan_data.rs).
 use Prim.Native.Nat.{ℕ, _+_, _*_, _-_, _/_}
-use mathlib.Core.Bool.{Bool, _&&_, cond}
-use mathlib.Core.List.{List, []}
+use mathlib.Core.Bool.{Bool, _&&_}
+use mathlib.Core.List.{List}
 use lib.Dec.{leb}
 use lib.ListN.{length}
-use Rattle.refusal.specs.Outcome.{Outcome, ok, refused}
+use Rattle.refusal.specs.Outcome.{Outcome, ok}
 use Rattle.refusal.specs.Number.{toldRefusal}
-use Rattle.lists.specs.Written.{over}
 use Rattle.parser.specs.Parser.{Parser, done, _>>=_}
 use Rattle.packet_header.specs.declared.PacketHeader.{PacketHeader}
 use Rattle.peaks.specs.Peaks.{Peak, masses, abundances}

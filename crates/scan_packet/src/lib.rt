@@ -1,7 +1,7 @@
 // What a scan data packet holds, whichever of its readers read it (`ScanDataPacket` of scan_data.rs): the answer, and what
 // the readers share once the peak list is found. The lists go into lent slices; fields that are only read keep their bits.
 ghost use mathlib.Core.Path.{_≡_};
-ghost use Rattle.lists.specs.Written.{each, fitting};
+ghost use Rattle.lists.specs.Written.{fitting};
 ghost use Rattle.peaks.specs.Peaks.{masses, abundances};
 ghost use Rattle.scan_packet.specs.Packet.{hasRoom};
 ghost use Rattle.scan_packet.specs.Places.{withLabels, toldPlaces, peaksOf, descriptorsOf, resolutionsOf, describePlaces};

@@ -1,7 +1,5 @@
 -- `event_walk::end_from_66` meets its contract: the preamble decides the body's size.
 -- Assumes nothing.
-use mathlib.Core.Path.{_≡_, _∙_}
-use Prim.Native.Nat.{_+_}
 use native.Mathlib.Omega.{arith}
 use denote.Ref.{now}
 use Rattle.scan_event.proofs.Results.{part-is}

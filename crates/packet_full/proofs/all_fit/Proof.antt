@@ -1,7 +1,6 @@
 -- `packet_full::all_fit` meets its contract: the chunks first, and then the lists.
 -- Assumes nothing.
-use mathlib.Core.Path.{ap, sym, _∙_}
-use mathlib.Core.Bool.{_&&_}
+use mathlib.Core.Path.{sym, _∙_}
 use Rattle.packet_full.proofs.Results.{chunks-and-lists, no-chunks}
 use borrow.Author.Needs.{needs}
 use Rattle.packet_full.proofs.all_fit.Statement.{statement}

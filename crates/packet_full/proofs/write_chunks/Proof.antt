@@ -1,7 +1,7 @@
 -- `packet_full::write_chunks` meets its contract: the invariant is `Writing`, and a turn writes one chunk.
 -- Assumes nothing.
-use mathlib.Core.Path.{_≡_, refl, ap, sym, _∙_}
-use Prim.Native.Nat.{ℕ, _+_, _-_, _≤_}
+use mathlib.Core.Path.{_≡_, refl}
+use Prim.Native.Nat.{_-_}
 use native.Mathlib.Omega.{arith}
 use denote.Ref.{now}
 use Rattle.parser.specs.Parser.{parse, repeat}

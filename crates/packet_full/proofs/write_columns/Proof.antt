@@ -2,9 +2,7 @@
 -- Assumes nothing.
 use mathlib.Core.Path.{sym}
 use denote.Ref.{now}
-use lib.ListN.{length}
 use Rattle.lists.proofs.Laws.{over-none}
-use Rattle.packet_full.specs.Judged.{HasChunks}
 use borrow.Author.Needs.{needs}
 use Rattle.packet_full.proofs.write_columns.Statement.{statement}
 use Rattle.packet_full.proofs.write_columns.Tie as tie

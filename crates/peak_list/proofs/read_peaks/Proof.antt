@@ -2,7 +2,6 @@
 -- Assumes nothing.
 use native.Mathlib.Nat.{mul-le-mul-left}
 use native.Mathlib.Omega.{arith}
-use mathlib.Core.Path.{_∙_}
 use denote.Ref.{now}
 use Rattle.peak_list.proofs.Lists.{no-list, short-count, short-peaks, whole-list}
 use borrow.Author.Needs.{needs}

@@ -1,7 +1,7 @@
 -- `profile::judge_chunks` meets its contract: a turn passes one chunk and counts its values (`Tallied`). Four times the
 -- values are at most the place, so their number fits.
 -- Assumes nothing.
-use mathlib.Core.Path.{_≡_, ap, sym}
+use mathlib.Core.Path.{_≡_, sym}
 use Prim.Native.Nat.{_*_, _-_, _≤_}
 use native.Mathlib.Omega.{arith}
 use denote.Ref.{now}

@@ -1,12 +1,8 @@
 -- `scan_packet::write_lists` meets its contract: each list is copied by a call of its own.
 -- Assumes nothing.
-use mathlib.Core.Path.{ap, _∙_}
+use mathlib.Core.Path.{_∙_}
 use native.Mathlib.Omega.{arith}
 use denote.Ref.{now}
-use Prim.Native.Nat.{_*_}
-use Rattle.lists.specs.Written.{fitting}
-use Rattle.lists.proofs.Laws.{each-same}
-use Rattle.reader.proofs.Words.{le-shifted}
 use Rattle.scan_packet.proofs.Lists.{behind-count-word, stride-is, stride-is-2}
 use borrow.Author.Needs.{needs}
 use Rattle.scan_packet.proofs.write_lists.Statement.{statement}
