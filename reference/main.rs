@@ -1,5 +1,6 @@
 //! The reference: reads the requests of docs/REQUESTS.md from standard input and answers them by the functions of
-//! OpenTFRaw, whose files are built unchanged over a reader written from document 01.
+//! OpenTFRaw, whose files are built unchanged over a reader written from document 01. Called with the word `listing` or
+//! `listing-one` it lists trays instead.
 
 #![allow(dead_code, unused_imports)]
 
@@ -15,11 +16,13 @@ pub use types::*;
 
 mod answer;
 mod error;
+mod listing;
 mod packets;
 mod pairs;
 mod records;
 mod request;
 mod searches;
+mod tray;
 
 // Files that reader.rs names but that are not at hand.
 mod error_log {
@@ -58,8 +61,22 @@ const LONGEST_LINE: usize = 65536;
 const FULL: usize = 1 << 20;
 
 fn main() -> std::io::Result<()> {
-    let mut requests = std::io::stdin().lock();
-    let mut output = std::io::stdout().lock();
+    let input = std::io::stdin().lock();
+    let mut output = std::io::BufWriter::new(std::io::stdout().lock());
+    let words: Vec<String> = std::env::args().skip(1).collect();
+    match words.iter().map(String::as_str).collect::<Vec<_>>()[..] {
+        [] => answer_all(input, &mut output)?,
+        ["listing"] => listing::list_many(input, &mut output)?,
+        ["listing-one"] => listing::list_one(input, &mut output)?,
+        _ => {
+            eprintln!("reference: no such words; there are `listing` and `listing-one`");
+            std::process::exit(2)
+        }
+    }
+    output.flush()
+}
+
+fn answer_all(mut requests: impl BufRead, mut output: impl Write) -> std::io::Result<()> {
     let mut answers = Answers::new();
     let mut line = Vec::new();
     while requests.read_until(b'\n', &mut line)? > 0 {
@@ -115,6 +132,8 @@ fn answer(line: &[u8], out: &mut Answers) -> Option<()> {
         b"v63" => searches::v63,
         b"event_transition" => searches::event_transition,
         b"channels" => searches::channels,
+        b"scan" => tray::scan,
+        b"scan_from" => tray::scan_from,
         _ => return None,
     };
     request(&mut fields, out)
@@ -385,6 +404,13 @@ impl EventSlices {
             self.coefficients[at] = coefficient.to_bits();
         }
     }
+
+    fn put<'a>(&self, out: &'a mut Answers) -> &'a mut Answers {
+        out.slice8(&self.preamble)
+            .slice64(&self.precursors)
+            .slice64(&self.energies)
+            .slice64(&self.coefficients)
+    }
 }
 
 fn event(fields: &mut Fields, out: &mut Answers) -> Option<()> {
@@ -420,11 +446,8 @@ where
             slices.fill(&event);
             put_event(out.ok(), &event).number(reader.position())
         }
-    }
-    .slice8(&slices.preamble)
-    .slice64(&slices.precursors)
-    .slice64(&slices.energies)
-    .slice64(&slices.coefficients);
+    };
+    slices.put(out);
     Some(())
 }
 
@@ -465,19 +488,21 @@ fn entry(fields: &mut Fields, out: &mut Answers) -> Option<()> {
     fields.end()?;
     match ScanIndexEntry::read(&mut reader_at(&bytes, place), version) {
         Err(error) => out.refused(&error, Part::Index),
-        Ok(entry) => out
-            .ok()
-            .number(entry.index)
-            .number(entry.scan_event)
-            .number(entry.scan_segment)
-            .number(entry.data_size)
-            .bits64(entry.start_time.to_bits())
-            .bits64(entry.total_current.to_bits())
-            .bits64(entry.base_intensity.to_bits())
-            .bits64(entry.base_mz.to_bits())
-            .bits64(entry.low_mz.to_bits())
-            .bits64(entry.high_mz.to_bits())
-            .number(entry.offset),
+        Ok(entry) => put_entry(out.ok(), &entry),
     };
     Some(())
+}
+
+fn put_entry<'a>(out: &'a mut Answers, entry: &ScanIndexEntry) -> &'a mut Answers {
+    out.number(entry.index)
+        .number(entry.scan_event)
+        .number(entry.scan_segment)
+        .number(entry.data_size)
+        .bits64(entry.start_time.to_bits())
+        .bits64(entry.total_current.to_bits())
+        .bits64(entry.base_intensity.to_bits())
+        .bits64(entry.base_mz.to_bits())
+        .bits64(entry.low_mz.to_bits())
+        .bits64(entry.high_mz.to_bits())
+        .number(entry.offset)
 }

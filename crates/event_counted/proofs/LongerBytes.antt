@@ -14,7 +14,7 @@ use Rattle.scan_event.specs.declared.Lent.{Lent}
 use Rattle.event_counted.specs.Layout.{judgeRecords, kept, countedEvent, bodyOutcome, counted, readCounted}
 use Rattle.event_counted.proofs.Judging.{then-settled, records-settled}
 
-counted-bounded : (size : ℕ) → size < 2 ^ 32 → Bounded (2 ^ 62) (2 ^ 62 - 1) (counted size)
+counted-bounded : (size : ℕ) → size < 2 ^ 32 → Bounded (2 ^ 62) (2 ^ 61) (counted size)
 unfolding counted
 counted-bounded size h = λ _ _ _. (omega arith, λ _ _ _. (omega arith, tt))
 

@@ -63,10 +63,10 @@ module _ (version primary dependent at : ℕ) (s : List ℕ) where
 
 -- the walk: after i events it stands at `at`
 module _ (p : Parser Event) (s : List ℕ) where
-  abbrev ends : Parsed (List Event) → Outcome ℕ
+  abbrev pub ends : Parsed (List Event) → Outcome ℕ
   ends o = onward 3 o (λ _ next. ok next)
 
-  ends-cons : (e : Event) (o : Parsed (List Event)) → ends (after o (λ others end. parsed (e ∷ others) end)) ≡ ends o
+  pub ends-cons : (e : Event) (o : Parsed (List Event)) → ends (after o (λ others end. parsed (e ∷ others) end)) ≡ ends o
   ends-cons e short = refl
   ends-cons e (parsed others end) = refl
 

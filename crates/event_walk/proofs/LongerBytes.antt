@@ -34,12 +34,12 @@ module _ (version primary dependent : ℕ) where
     unfolding eventEnd
     event-end-completes at =
         single-completes 3 at (event version primary dependent) (λ _ next. ok next)
-        (bounded-more (2 ^ 62) (2 ^ 39) (2 ^ 62 - 1) (event version primary dependent) (lit≤ tt) (event-asks .bounded)) (λ _ _. tt)
+        (bounded-more (2 ^ 62) (2 ^ 39) (2 ^ 61) (event version primary dependent) (lit≤ tt) (event-asks .bounded)) (λ _ _. tt)
 
     pub event-place-completes : (start k : ℕ) → k < 2 ^ 16 → Completes 3 start (eventPlace version primary dependent start k)
     unfolding eventPlace
     event-place-completes start k small =
         let one = event version primary dependent in
         single-completes 3 start (repeat k one) (λ _ next. ok next)
-        (bounded-more (2 ^ 62) (2 ^ 39 + k * 2 ^ 39) (2 ^ 62 - 1) (repeat k one) (omega arith) (asks-repeat (2 ^ 62) (2 ^ 39) (2 ^ 39) k one Any event-asks (event-asks .zeros) .bounded))
+        (bounded-more (2 ^ 62) (2 ^ 39 + k * 2 ^ 39) (2 ^ 61) (repeat k one) (omega arith) (asks-repeat (2 ^ 62) (2 ^ 39) (2 ^ 39) k one Any event-asks (event-asks .zeros) .bounded))
         (λ _ _. tt)

@@ -11,9 +11,9 @@ use borrow.Author.Tests.{le-leb, lt-leb}
 use Rattle.refusal.specs.Outcome.{Outcome, ok, refused, ranOut}
 use Rattle.lists.proofs.Laws.{each-none}
 use Rattle.parser.specs.Parser.{done, seek, Parsed, short, parsed, left, within, parse}
-use Rattle.parser.specs.Call.{onward, outcome}
+use Rattle.parser.specs.Call.{onward, outcome, single}
 use Rattle.parser.proofs.Prefix.{after, parse-bind}
-use Rattle.peaks.specs.Peaks.{peaksAt, handOut}
+use Rattle.peaks.specs.Peaks.{Peak, peaksAt, handOut}
 use Rattle.peaks.proofs.Columns.{length-peaks}
 use Rattle.flat.specs.Flat.{recordEnd, looksValid, Attempt, accepted, passedOver, peaksFrom, attempt, orElse, attempts, flatPeaks, ofAccepted, placeAndCount, readFlatPeaks, findFlatPeaks}
 use Rattle.flat.specs.Judged.{judged}
@@ -126,33 +126,43 @@ module _ (s : List ℕ) where
       go true = each-none _
       go false = attempts-stand end cumEnd dataSize end
 
-module _ (place cumEnd dataSize : ℕ) (s : List ℕ) (m a : ℕ) where
-  pub read-found : (p n : ℕ) → ok (p, n) ≡ findFlatPeaks place cumEnd dataSize s
-      → handOut m a (peaksAt false 8 s p n) ≡ readFlatPeaks m a place cumEnd dataSize s
-  unfolding findFlatPeaks readFlatPeaks outcome
-  read-found p n =
+-- whatever follows of peaks that were found, or of a refusal
+module _ {A : Type 0} (follow : List Peak → Outcome A) (place cumEnd dataSize : ℕ) (s : List ℕ) where
+  pub then-found : (p n : ℕ) → ok (p, n) ≡ findFlatPeaks place cumEnd dataSize s
+      → follow (peaksAt false 8 s p n) ≡ outcome (single 4 (recordEnd place cumEnd) (flatPeaks (recordEnd place cumEnd) cumEnd dataSize) (λ v _. ofAccepted (λ _ peaks. follow peaks) v)) s
+  unfolding findFlatPeaks outcome
+  then-found p n =
       let end = recordEnd place cumEnd in
       go (parse (flatPeaks end cumEnd dataSize) s end) (flat-stands s end cumEnd dataSize)
     where
       go : (o : Parsed Attempt) → Stands s o → ok (p, n) ≡ onward 4 o (λ v _. ofAccepted placeAndCount v)
-          → handOut m a (peaksAt false 8 s p n) ≡ onward 4 o (λ v _. ofAccepted (λ _ peaks. handOut m a peaks) v)
+          → follow (peaksAt false 8 s p n) ≡ onward 4 o (λ v _. ofAccepted (λ _ peaks. follow peaks) v)
       go short h e = let z : _≡_ {A = ℕ} 0 1 = cc in absurd (omega arith)
       go (parsed (accepted q peaks) next) h e =
           let pair : _≡_ {A = ℕ × ℕ} (p, n) (q, length peaks) = cc in
           let here : p ≡ q = ap (λ (z : ℕ × ℕ). z .0) pair in
           let count : n ≡ length peaks = ap (λ (z : ℕ × ℕ). z .1) pair in
-          rw (here, count) (ap (handOut m a) (sym h))
+          rw (here, count) (ap follow (sym h))
       go (parsed passedOver next) h e = let z : _≡_ {A = ℕ} 0 1 = cc in absurd (omega arith)
 
-  pub read-refused : {number : ℕ} {carries : List ℕ} → refused number carries ≡ findFlatPeaks place cumEnd dataSize s
-      → refused number carries ≡ readFlatPeaks m a place cumEnd dataSize s
-  unfolding findFlatPeaks readFlatPeaks outcome
-  read-refused {number} {carries} =
+  pub then-refused : {number : ℕ} {carries : List ℕ} → refused number carries ≡ findFlatPeaks place cumEnd dataSize s
+      → refused number carries ≡ outcome (single 4 (recordEnd place cumEnd) (flatPeaks (recordEnd place cumEnd) cumEnd dataSize) (λ v _. ofAccepted (λ _ peaks. follow peaks) v)) s
+  unfolding findFlatPeaks outcome
+  then-refused {number} {carries} =
       let end = recordEnd place cumEnd in
       go (parse (flatPeaks end cumEnd dataSize) s end)
     where
       go : (o : Parsed Attempt) → refused number carries ≡ onward 4 o (λ v _. ofAccepted placeAndCount v)
-          → refused number carries ≡ onward 4 o (λ v _. ofAccepted (λ _ peaks. handOut m a peaks) v)
+          → refused number carries ≡ onward 4 o (λ v _. ofAccepted (λ _ peaks. follow peaks) v)
       go short e = let q : number ≡ 1 = cc in let r : carries ≡ 4 ∷ [] = cc in rw (q, r)
       go (parsed (accepted q peaks) next) e = let z : _≡_ {A = ℕ} 0 1 = cc in absurd (omega arith)
       go (parsed passedOver next) e = let q : number ≡ 2 = cc in let r : carries ≡ [] = cc in rw (q, r)
+
+module _ (place cumEnd dataSize : ℕ) (s : List ℕ) (m a : ℕ) where
+  pub read-found : (p n : ℕ) → ok (p, n) ≡ findFlatPeaks place cumEnd dataSize s → handOut m a (peaksAt false 8 s p n) ≡ readFlatPeaks m a place cumEnd dataSize s
+  unfolding readFlatPeaks
+  read-found = then-found (handOut m a) place cumEnd dataSize s
+
+  pub read-refused : {number : ℕ} {carries : List ℕ} → refused number carries ≡ findFlatPeaks place cumEnd dataSize s → refused number carries ≡ readFlatPeaks m a place cumEnd dataSize s
+  unfolding readFlatPeaks
+  read-refused = then-refused (handOut m a) place cumEnd dataSize s

@@ -58,13 +58,13 @@ module _ (end cumEnd dataSize : ℕ) (near : end < 2 ^ 62) (size : dataSize < 2 
       bounded-bind (λ _. Unit {0}) (orElse (attempt end cumEnd dataSize 2)) (2 ^ 62) (2 ^ 35) 0 (λ a _. next-extent a) (λ a _. next-bounded a)
       (attempt end cumEnd dataSize 1) (yields-any (attempt end cumEnd dataSize 1)) (attempt-bounded 1)
 
-  pub flat-bounded : Bounded (2 ^ 62) (2 ^ 62 - 1) (flatPeaks end cumEnd dataSize)
+  pub flat-bounded : Bounded (2 ^ 62) (2 ^ 61) (flatPeaks end cumEnd dataSize)
   unfolding flatPeaks
   flat-bounded = go (leb dataSize 1)
     where
-      go : (b : Bool) → Bounded (2 ^ 62) (2 ^ 62 - 1) (cond b (done (accepted end [])) (attempts end cumEnd dataSize))
+      go : (b : Bool) → Bounded (2 ^ 62) (2 ^ 61) (cond b (done (accepted end [])) (attempts end cumEnd dataSize))
       go true = tt
-      go false = bounded-more (2 ^ 62) (2 ^ 35) (2 ^ 62 - 1) (attempts end cumEnd dataSize) (lit≤ tt) attempts-bounded
+      go false = bounded-more (2 ^ 62) (2 ^ 35) (2 ^ 61) (attempts end cumEnd dataSize) (lit≤ tt) attempts-bounded
 
 pub accepted-settled : {A : Type 0} (f : ℕ → List Peak → Outcome A) → ((place : ℕ) (peaks : List Peak) → Settled (f place peaks)) → (a : Attempt) → Settled (ofAccepted f a)
 accepted-settled f h (accepted place peaks) = h place peaks

@@ -28,4 +28,4 @@ module _ (h : PacketHeader) (n at : ℕ) where
   unfolding readLabels
   labels-completes size =
       single-completes 4 at (labels h n) (λ l next. ok (located h l next))
-      (bounded-more (2 ^ 62) (3 * 2 ^ 34) (2 ^ 62 - 1) (labels h n) (lit≤ tt) (labels-asks (2 ^ 62) h n size .bounded)) (λ _ _. tt)
+      (bounded-more (2 ^ 62) (3 * 2 ^ 34) (2 ^ 61) (labels h n) (lit≤ tt) (labels-asks (2 ^ 62) h n size .bounded)) (λ _ _. tt)

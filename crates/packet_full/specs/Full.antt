@@ -2,33 +2,19 @@
 use Prim.Native.Nat.{ℕ}
 use mathlib.Core.Bool.{Bool, _&&_, cond}
 use mathlib.Core.List.{List, [], _∷_, _++_, map}
-use lib.Dec.{leb, eqb}
+use lib.Dec.{leb}
 use lib.ListN.{length}
 use Rattle.refusal.specs.Outcome.{Outcome, ok, refused}
 use Rattle.lists.specs.Written.{over}
-use Rattle.parser.specs.Parser.{Parser, done, _>>=_}
 use Rattle.parser.specs.Walk.{sum}
 use Rattle.parser.specs.Call.{outcome, single}
-use Rattle.packet_header.specs.Header.{header}
-use Rattle.packet_header.specs.declared.PacketHeader.{PacketHeader}
-use Rattle.peak_list.specs.PeakList.{peakList}
-use Rattle.profile.specs.Profile.{Chunk, points, profile}
-use Rattle.scan_packet.specs.Packet.{Stored, absent, present, Packet, behindPeaks, Decoded, decoded, lentOf, room, told}
+use Rattle.profile.specs.Profile.{Chunk, points}
+use Rattle.packet_places.specs.Packet.{packet}
+use Rattle.scan_packet.specs.Packet.{Stored, absent, present, Packet, Decoded, decoded, lentOf, room, told}
 use Rattle.scan_packet.specs.declared.Lent.{Lent}
 use Rattle.scan_packet.specs.declared.ScanDataPacket.{ScanDataPacket}
 use Rattle.scan_packet.specs.declared.PacketAnswer.{PacketAnswer}
 use Rattle.packet_full.specs.declared.ChunkLent.{ChunkLent}
-
--- a profile of size 0 is none. Any other is as long as its chunks, whatever its size says
-unfoldable pub stored : PacketHeader → Parser Stored
-stored h = cond (eqb (h .«profile_size») 0) (done absent) (profile (h .layout) >>= λ p. done (present p))
-
-unfoldable pub packet : Parser Packet
-packet = do
-  h ← header
-  p ← stored h
-  peaks ← peakList h
-  behindPeaks h p peaks
 
 -- the chunks in four columns: first bins, how many values each has, fudges, and the values of them all
 pub record Columns : Type 0 where

@@ -1,46 +1,21 @@
--- A packet's parts stage by stage, and a profile whose chunks are there. No public promise cites it.
+-- A profile whose chunks are there. No public promise cites it.
 use mathlib.Core.Path.{_≡_}
-use Prim.Native.Nat.{ℕ, _+_, _≤_}
+use Prim.Native.Nat.{ℕ, _≤_}
 use mathlib.Core.Bool.{Bool, _&&_, cond}
 use mathlib.Core.List.{List, []}
 use Rattle.refusal.specs.Outcome.{Outcome, ok, refused}
-use Rattle.refusal.specs.Number.{toldRefusal}
 use Rattle.parser.specs.Parser.{Parsed, short, parsed, parse, repeat}
 use Rattle.parser.specs.Walk.{sum}
-use Rattle.parser.specs.Call.{outcome, single}
-use Rattle.packet_header.specs.Header.{readHeader}
-use Rattle.packet_header.specs.declared.PacketHeader.{PacketHeader}
-use Rattle.peak_list.specs.PeakList.{readPeaks}
 use Rattle.profile.specs.Profile.{Chunk, points, chunk}
 use Rattle.profile.specs.declared.Profile.{Profile}
-use Rattle.scan_packet.specs.Packet.{describeProfile, Decoded, hasRoom}
-use Rattle.scan_packet.specs.Places.{withLabels, decodedAt}
+use Rattle.scan_packet.specs.Packet.{Decoded, hasRoom}
+use Rattle.scan_packet.specs.Places.{decodedAt}
 use Rattle.scan_packet.specs.declared.Lent.{Lent}
 use Rattle.scan_packet.specs.declared.PacketProfile.{PacketProfile}
 use Rattle.scan_packet.specs.declared.PacketProfile.the-variants.{Absent, Present}
 use Rattle.scan_packet.specs.declared.Places.{Places}
-use Rattle.packet_full.specs.Full.{stored, Columns, columns, chunkRoom}
+use Rattle.packet_full.specs.Full.{Columns, columns, chunkRoom}
 use Rattle.packet_full.specs.declared.ChunkLent.{ChunkLent}
-use Rattle.packet_full.specs.declared.FoundProfile.{FoundProfile}
-use Rattle.packet_full.specs.declared.FoundProfile.the-variants as profile
-
-abbrev pub andThen : {A B : Type 0} → Outcome A → (A → Outcome B) → Outcome B
-andThen (ok a) f = f a
-andThen (refused number carries) f = refused number carries
-
--- the profile behind the header, and the place behind it
-unfoldable pub findProfile : PacketHeader → ℕ → List ℕ → Outcome (PacketProfile × ℕ)
-findProfile h at s = outcome (single 4 (at + 40) (stored h) (λ p next. ok (describeProfile (h .layout) at p, next))) s
-
-abbrev pub toldProfile : FoundProfile → Outcome (PacketProfile × ℕ)
-toldProfile (profile.Found p next) = ok (p, next)
-toldProfile (profile.Refused r) = toldRefusal r
-
-unfoldable pub behindHeader : PacketHeader → ℕ → List ℕ → Outcome Places
-behindHeader h at s = andThen (findProfile h at s) (λ p. andThen (readPeaks h (p .1) s) (λ list. withLabels h (p .0) list s))
-
-unfoldable pub findPlaces : ℕ → List ℕ → Outcome Places
-findPlaces at s = andThen (readHeader at s) (λ h. behindHeader h at s)
 
 -- the chunks of a profile, as they are parsed
 abbrev pub listOf : Parsed (List Chunk) → List Chunk

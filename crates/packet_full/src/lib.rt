@@ -1,18 +1,11 @@
 // A whole packet: profile, peaks and labels (`ScanDataPacket::read` of scan_data.rs).
 ghost use mathlib.Core.Path.{_≡_};
-ghost use Prim.Native.Nat.{_≤_};
 ghost use lib.ListN.{length};
 ghost use Rattle.lists.specs.Written.{over};
-ghost use Rattle.parser.specs.Parser.{left};
-ghost use Rattle.scan_packet.specs.Places.{toldPlaces};
 ghost use Rattle.packet_full.specs.Full.{columns, chunkRoom, readPacket, result, resultOf};
-ghost use Rattle.packet_full.specs.Judged.{findProfile, toldProfile, behindHeader, findPlaces, ChunksThere, HasChunks, ProfileThere, chunkList, chunksAt, chunkCount, pointCount, placesRoom, handPlaces};
-use packet_header::HeaderAnswer;
-use packet_header::PacketHeader;
-use peak_list::PeakListAnswer;
-use peak_list::read_peaks;
+ghost use Rattle.packet_full.specs.Judged.{ChunksThere, HasChunks, ProfileThere, chunkList, chunksAt, chunkCount, pointCount, placesRoom, handPlaces};
+use packet_places::find_places;
 use profile::Profile;
-use profile::ProfileAnswer;
 use profile::fudge_at;
 use profile::head_size;
 use reader::copy_u32s;
@@ -35,49 +28,6 @@ pub struct ChunkLent {
     pub counts: u64,
     pub fudges: u64,
     pub signal: u64,
-}
-
-// A packet's profile, if it has one, and the place behind it.
-enum FoundProfile {
-    Found(PacketProfile, u64),
-    Refused(Refusal),
-}
-
-// The profile of the packet at a place, whose header is there.
-fn find_profile(run: &[u8], at: u64, h: PacketHeader) -> FoundProfile
-    requires { ⌜ 40 ≤ left (now run) at ⌝ }
-    ensures { λ r. ⌜ toldProfile r ≡ findProfile h at (now (run .entry)) ⌝ }
-{
-    if h.profile_size == 0 {
-        return FoundProfile::Found(PacketProfile::Absent, at + 40);
-    }
-    match Profile::read(run, at + 40, h.layout) {
-        ProfileAnswer::Refused(r) => FoundProfile::Refused(r),
-        ProfileAnswer::Profile(p, next) => FoundProfile::Found(PacketProfile::Present(p), next),
-    }
-}
-
-fn behind_header(run: &[u8], at: u64, h: PacketHeader) -> PlacesAnswer
-    requires { ⌜ 40 ≤ left (now run) at ⌝ }
-    ensures { λ r. ⌜ toldPlaces r ≡ behindHeader h at (now (run .entry)) ⌝ }
-{
-    match find_profile(run, at, h) {
-        FoundProfile::Refused(r) => PlacesAnswer::Refused(r),
-        FoundProfile::Found(profile, next) => match read_peaks(run, next, h) {
-            PeakListAnswer::Refused(r) => PlacesAnswer::Refused(r),
-            PeakListAnswer::List(list) => with_labels(run, h, profile, list),
-        },
-    }
-}
-
-// Where the parts of the packet at a place stand.
-fn find_places(run: &[u8], at: u64) -> PlacesAnswer
-    ensures { λ r. ⌜ toldPlaces r ≡ findPlaces at (now (run .entry)) ⌝ }
-{
-    match PacketHeader::read(run, at) {
-        HeaderAnswer::Refused(r) => PlacesAnswer::Refused(r),
-        HeaderAnswer::Header(h) => behind_header(run, at, h),
-    }
 }
 
 // The columns of chunks that are there, where the slices hold them. Each chunk's signal stands after that of the chunk

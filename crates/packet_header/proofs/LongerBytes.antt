@@ -12,8 +12,8 @@ use Rattle.packet_header.specs.Header.{header, readHeader}
 use Rattle.packet_header.specs.declared.PacketHeader.{PacketHeader}
 use Rattle.packet_header.proofs.Size.{header-sized}
 
-pub header-bounded : Bounded (2 ^ 62) (2 ^ 62 - 1) header
-header-bounded = bounded-sized (2 ^ 62) 40 (2 ^ 62 - 1) header (lit≤ tt) header-sized
+pub header-bounded : Bounded (2 ^ 62) (2 ^ 61) header
+header-bounded = bounded-sized (2 ^ 62) 40 (2 ^ 61) header (lit≤ tt) header-sized
 
 pub header-prefix : (at : ℕ) → PrefixProperty (readHeader at)
 unfolding readHeader

@@ -41,4 +41,4 @@ skip-profile-prefix lent at = prefix-property (single 4 at packetSkipping (handO
 pub skip-profile-completes : (lent : Lent) (at : ℕ) → Completes 4 at (readSkipProfile lent at)
 unfolding readSkipProfile
 skip-profile-completes lent at =
-    single-completes 4 at packetSkipping (handOut lent at) (bounded-more (2 ^ 62) most (2 ^ 62 - 1) packetSkipping (lit≤ tt) (packet-asks (2 ^ 62) .bounded)) (hand-out-settled lent at)
+    single-completes 4 at packetSkipping (handOut lent at) (bounded-more (2 ^ 62) most (2 ^ 61) packetSkipping (lit≤ tt) (packet-asks (2 ^ 62) .bounded)) (hand-out-settled lent at)

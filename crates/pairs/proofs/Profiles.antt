@@ -15,7 +15,7 @@ use Rattle.profile.proofs.Answers.{profiled}
 use Rattle.pairs.specs.Pairs.{chunksFrom, chunksOf, binsOf, profilePairs}
 use Rattle.pairs.proofs.Writing.{length-pairs}
 
-chunks-parsed : (fudged : Bool) (s : List ℕ) (n at : ℕ) {cs : List Chunk} {end : ℕ} → parse (repeat n (chunk fudged)) s at ≡ parsed cs end → chunksFrom fudged s n at ≡ cs
+pub chunks-parsed : (fudged : Bool) (s : List ℕ) (n at : ℕ) {cs : List Chunk} {end : ℕ} → parse (repeat n (chunk fudged)) s at ≡ parsed cs end → chunksFrom fudged s n at ≡ cs
 unfolding chunksFrom parse repeat
 chunks-parsed fudged s zero at h = cc
 chunks-parsed fudged s (suc n) at h =

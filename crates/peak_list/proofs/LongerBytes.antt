@@ -60,7 +60,7 @@ pub peaks-only-completes : (m a at : ℕ) → Completes 4 at (readPeaksOnly m a 
 unfolding readPeaksOnly
 peaks-only-completes m a at =
     single-completes 4 at skipping (λ (p : PacketHeader × List Peak) _. handOut m a (p .1))
-    (bounded-more (2 ^ 62) (40 + (2 ^ 34 + (4 + 2 ^ 36))) (2 ^ 62 - 1) skipping (lit≤ tt) (skipping-asks (2 ^ 62) .bounded))
+    (bounded-more (2 ^ 62) (40 + (2 ^ 34 + (4 + 2 ^ 36))) (2 ^ 61) skipping (lit≤ tt) (skipping-asks (2 ^ 62) .bounded))
     (λ p _. hand-out-settled m a (p .1))
 
 -- the calls that find
@@ -72,7 +72,7 @@ pub skip-to-peaks-completes : (at : ℕ) → Completes 4 at (skipToPeaks at)
 unfolding skipToPeaks
 skip-to-peaks-completes at =
     single-completes 4 at skipping (λ p next. ok (both p next))
-    (bounded-more (2 ^ 62) (40 + (2 ^ 34 + (4 + 2 ^ 36))) (2 ^ 62 - 1) skipping (lit≤ tt) (skipping-asks (2 ^ 62) .bounded)) (λ _ _. tt)
+    (bounded-more (2 ^ 62) (40 + (2 ^ 34 + (4 + 2 ^ 36))) (2 ^ 61) skipping (lit≤ tt) (skipping-asks (2 ^ 62) .bounded)) (λ _ _. tt)
 
 pub peak-list-prefix : (h : PacketHeader) (at : ℕ) → PrefixProperty (readPeaks h at)
 unfolding readPeaks
@@ -82,4 +82,4 @@ pub peak-list-completes : (h : PacketHeader) (at : ℕ) → Completes 4 at (read
 unfolding readPeaks
 peak-list-completes h at =
     single-completes 4 at (peakList h) (λ peaks next. ok (located h peaks next))
-    (bounded-more (2 ^ 62) (4 + 2 ^ 36) (2 ^ 62 - 1) (peakList h) (lit≤ tt) (peak-list-asks (2 ^ 62) h .bounded)) (λ _ _. tt)
+    (bounded-more (2 ^ 62) (4 + 2 ^ 36) (2 ^ 61) (peakList h) (lit≤ tt) (peak-list-asks (2 ^ 62) h .bounded)) (λ _ _. tt)

@@ -82,4 +82,4 @@ pub profile-completes : (layout at : ℕ) → Completes 4 at (readProfile layout
 unfolding readProfile
 profile-completes layout at =
     single-completes 4 at (profile layout) (λ p next. ok (located layout at p, next))
-    (bounded-more (2 ^ 62) (24 + 2 ^ 37) (2 ^ 62 - 1) (profile layout) (lit≤ tt) (profile-asks (2 ^ 62) layout .bounded)) (λ _ _. tt)
+    (bounded-more (2 ^ 62) (24 + 2 ^ 37) (2 ^ 61) (profile layout) (lit≤ tt) (profile-asks (2 ^ 62) layout .bounded)) (λ _ _. tt)

@@ -8,9 +8,10 @@ use mathlib.Core.List.{List, []}
 use lib.ListN.{length}
 use Rattle.refusal.specs.Outcome.{Outcome, ok, refused}
 use Rattle.lists.proofs.Laws.{each-none}
+use Rattle.parser.specs.Call.{outcome, single}
 use Rattle.peaks.specs.Peaks.{Peak, peaksAt, handOut}
 use Rattle.peaks.proofs.Columns.{length-peaks}
-use Rattle.srm.specs.Scan.{start, peaks, readScan, findPeaks, windows, handOutWindows, readWindows}
+use Rattle.srm.specs.Scan.{start, scan, peaks, readScan, findPeaks, windows, handOutWindows, readWindows}
 use Rattle.srm.specs.Channels.{channels, windowsAt}
 use Rattle.srm.proofs.Tables.{peaks-sized, windows-sized, peaks-are, windows-are}
 use Rattle.srm.proofs.Counting.{followed, by-channels}
@@ -32,9 +33,10 @@ module _ (place offset : ℕ) (s : List ℕ) (at : ℕ) (is : at ≡ start place
   unfolding findPeaks list
   found-by = rw (← is) (by-channels 20 peaks peaks-sized s at list (peaks-are s at) list-none _)
 
-  read-by : (m a : ℕ) → readScan m a place offset s ≡ followed (channels 20 s at) (λ n. handOut m a (list n))
-  unfolding readScan list
-  read-by m a = rw (← is) (by-channels 20 peaks peaks-sized s at list (peaks-are s at) list-none _)
+  then-by : {A : Type 0} (follow : List Peak → Outcome A)
+      → outcome (single 4 (start place offset) (scan peaks) (λ ps _. follow ps)) s ≡ followed (channels 20 s at) (λ n. follow (list n))
+  unfolding list
+  then-by follow = rw (← is) (by-channels 20 peaks peaks-sized s at list (peaks-are s at) list-none _)
 
   pub found : (n : ℕ) → ok n ≡ channels 20 s at → ok (at + 36 + n * 8, n) ≡ findPeaks place offset s
   found n e = rw (found-by, ← e, length-list n)
@@ -54,32 +56,32 @@ module _ (place offset : ℕ) (s : List ℕ) (at : ℕ) (is : at ≡ start place
     pub no-windows : {number : ℕ} {carries : List ℕ} → refused number carries ≡ channels 8 s at → refused number carries ≡ readWindows l h place offset s
     no-windows e = rw (windows-by, ← e)
 
--- the peaks that were found are handed out
-module _ (place offset : ℕ) (s : List ℕ) (m a : ℕ) where
+-- whatever follows of peaks that were found, or of a refusal
+module _ {A : Type 0} (follow : List Peak → Outcome A) (place offset : ℕ) (s : List ℕ) where
   at : ℕ
   at = start place offset
 
-  pub read-found : (p n : ℕ) → ok (p, n) ≡ findPeaks place offset s → handOut m a (peaksAt false 12 s p n) ≡ readScan m a place offset s
+  pub then-found : (p n : ℕ) → ok (p, n) ≡ findPeaks place offset s → follow (peaksAt false 12 s p n) ≡ outcome (single 4 (start place offset) (scan peaks) (λ ps _. follow ps)) s
   unfolding at list
-  read-found p n e = go (channels 20 s at) refl
+  then-found p n e = go (channels 20 s at) refl
     where
-      go : (o : Outcome ℕ) → channels 20 s at ≡ o → handOut m a (peaksAt false 12 s p n) ≡ readScan m a place offset s
+      go : (o : Outcome ℕ) → channels 20 s at ≡ o → follow (peaksAt false 12 s p n) ≡ outcome (single 4 (start place offset) (scan peaks) (λ ps _. follow ps)) s
       go (ok k) h =
           let c = e ∙ sym (found place offset s at refl k (sym h)) in
           let both : _≡_ {A = ℕ × ℕ} (p, n) (at + 36 + k * 8, k) = cc in
           let here : p ≡ at + 36 + k * 8 = ap (λ (z : ℕ × ℕ). z .0) both in
           let count : n ≡ k = ap (λ (z : ℕ × ℕ). z .1) both in
-          rw (read-by place offset s at refl m a, h, here, count)
+          rw (then-by place offset s at refl follow, h, here, count)
       go (refused number carries) h =
           let c = e ∙ sym (find-refused place offset s at refl (sym h)) in
           let z : _≡_ {A = ℕ} 0 1 = cc in
           absurd (omega arith)
 
-  pub read-refused : {number : ℕ} {carries : List ℕ} → refused number carries ≡ findPeaks place offset s → refused number carries ≡ readScan m a place offset s
+  pub then-refused : {number : ℕ} {carries : List ℕ} → refused number carries ≡ findPeaks place offset s → refused number carries ≡ outcome (single 4 (start place offset) (scan peaks) (λ ps _. follow ps)) s
   unfolding at
-  read-refused {number} {carries} e = go (channels 20 s at) refl
+  then-refused {number} {carries} e = go (channels 20 s at) refl
     where
-      go : (o : Outcome ℕ) → channels 20 s at ≡ o → refused number carries ≡ readScan m a place offset s
+      go : (o : Outcome ℕ) → channels 20 s at ≡ o → refused number carries ≡ outcome (single 4 (start place offset) (scan peaks) (λ ps _. follow ps)) s
       go (ok k) h =
           let c = e ∙ sym (found place offset s at refl k (sym h)) in
           let z : _≡_ {A = ℕ} 0 1 = cc in
@@ -88,4 +90,13 @@ module _ (place offset : ℕ) (s : List ℕ) (m a : ℕ) where
           let c = e ∙ sym (find-refused place offset s at refl (sym h)) in
           let same : number ≡ x = cc in
           let carried : carries ≡ y = cc in
-          rw (same, carried, read-by place offset s at refl m a, h)
+          rw (same, carried, then-by place offset s at refl follow, h)
+
+module _ (place offset : ℕ) (s : List ℕ) (m a : ℕ) where
+  pub read-found : (p n : ℕ) → ok (p, n) ≡ findPeaks place offset s → handOut m a (peaksAt false 12 s p n) ≡ readScan m a place offset s
+  unfolding readScan
+  read-found = then-found (handOut m a) place offset s
+
+  pub read-refused : {number : ℕ} {carries : List ℕ} → refused number carries ≡ findPeaks place offset s → refused number carries ≡ readScan m a place offset s
+  unfolding readScan
+  read-refused = then-refused (handOut m a) place offset s

@@ -33,16 +33,16 @@ module _ {A : Type 0} (size : ℕ) (few : size ≤ 20) (table : ℕ → Parser (
   either-bounded false n h =
       bounded-sized (2 ^ 62) (28 + n * size) (4 + 2 ^ 37) (skip 28 >> table n) (omega (arith, table-most n h)) (skipped-sized size table sized n)
 
-  scan-bounded : Bounded (2 ^ 62) (2 ^ 62 - 1) (scan table)
+  scan-bounded : Bounded (2 ^ 62) (2 ^ 61) (scan table)
   unfolding scan behind
   scan-bounded =
-      bounded-more (2 ^ 62) (4 + 2 ^ 37) (2 ^ 62 - 1) (scan table) (lit≤ tt)
+      bounded-more (2 ^ 62) (4 + 2 ^ 37) (2 ^ 61) (scan table) (lit≤ tt)
       (bounded-word (2 ^ 62) 4 (2 ^ 37) (behind table) (λ n h. either-extent (eqb n 0) n h) (λ n h. either-bounded (eqb n 0) n h))
 
-pub peaks-bounded : Bounded (2 ^ 62) (2 ^ 62 - 1) (scan peaks)
+pub peaks-bounded : Bounded (2 ^ 62) (2 ^ 61) (scan peaks)
 peaks-bounded = scan-bounded 20 (lit≤ tt) peaks peaks-sized
 
-windows-bounded : Bounded (2 ^ 62) (2 ^ 62 - 1) (scan windows)
+windows-bounded : Bounded (2 ^ 62) (2 ^ 61) (scan windows)
 windows-bounded = scan-bounded 8 (lit≤ tt) windows windows-sized
 
 windows-settled : (l h : ℕ) (ws : List Window) → Settled (handOutWindows l h ws)

@@ -22,4 +22,4 @@ tray-header-prefix = prefix-property (single 1 0 header (λ h _. judged 4096 6 h
 
 pub tray-header-completes : Completes 1 0 readTrayHeader
 unfolding readTrayHeader
-tray-header-completes = single-completes 1 0 header (λ h _. judged 4096 6 h) (bounded-sized (2 ^ 62) 32 (2 ^ 62 - 1) header (lit≤ tt) header-sized) (λ h _. judged-settled h)
+tray-header-completes = single-completes 1 0 header (λ h _. judged 4096 6 h) (bounded-sized (2 ^ 62) 32 (2 ^ 61) header (lit≤ tt) header-sized) (λ h _. judged-settled h)

@@ -1,0 +1,5 @@
+pub mod Places
+pub mod Digits
+pub mod Listing
+pub mod Room
+pub mod Examples

@@ -1,0 +1,54 @@
+-- The lines of the pairs, as a loop writes them: each behind those of the pairs before.
+-- Assumes nothing.
+use mathlib.Core.Path.{_≡_, refl, sym, ap, _∙_}
+use Prim.Native.Nat.{ℕ, zero, suc, _+_, _≤_, _<_, min}
+use native.Mathlib.Numerals.{add-one}
+use native.Mathlib.Omega.{arith}
+use mathlib.Core.List.{List, [], _∷_, _++_, append-nil, append-assoc}
+use lib.Ieee.{Float}
+use lib.ListN.{length, getD, take}
+use lib.Seq.{take-nil}
+use Rattle.text.specs.Text.{ascii}
+use Rattle.lines.specs.Lines.{decimal, line, mass, bits, pairLines, scanLines}
+use Rattle.lines.specs.Placed.{Put}
+use Rattle.lines.proofs.Places.{put-then}
+
+-- the line of the i-th pair. The lists have one, so d does not matter
+abbrev pub lineAt : List Float → List Float → ℕ → Float → List ℕ
+lineAt mz intensity i d = line (mass (getD mz i d) ∷ bits (getD intensity i d) ∷ [])
+
+-- the lines of the first i pairs
+abbrev pub linesTo : List Float → List Float → ℕ → List ℕ
+linesTo mz intensity i = pairLines (take i mz) (take i intensity)
+
+lines-more : (mz intensity : List Float) (i : ℕ) (d : Float) → i < length mz → i < length intensity
+    → linesTo mz intensity (suc i) ≡ linesTo mz intensity i ++ lineAt mz intensity i d
+lines-more [] intensity i d h k = absurd (omega arith)
+lines-more (m ∷ mz) [] i d h k = absurd (omega arith)
+lines-more (m ∷ mz) (x ∷ intensity) zero d h k = append-nil (line (mass m ∷ bits x ∷ []))
+lines-more (m ∷ mz) (x ∷ intensity) (suc i) d h k =
+    ap (λ l. line (mass m ∷ bits x ∷ []) ++ l) (lines-more mz intensity i d (omega arith) (omega arith))
+    ∙ sym (append-assoc (line (mass m ∷ bits x ∷ [])) (linesTo mz intensity i) (lineAt mz intensity i d))
+
+lines-all : (mz intensity : List Float) (i : ℕ) → min (length mz) (length intensity) ≤ i → linesTo mz intensity i ≡ pairLines mz intensity
+lines-all [] intensity i h = rw (take-nil i)
+lines-all (m ∷ mz) [] zero h = refl
+lines-all (m ∷ mz) [] (suc i) h = refl
+lines-all (m ∷ mz) (x ∷ intensity) zero h = absurd (omega arith)
+lines-all (m ∷ mz) (x ∷ intensity) (suc i) h = ap (λ l. line (mass m ∷ bits x ∷ []) ++ l) (lines-all mz intensity i (omega arith))
+
+-- a turn of the loop, which started at a place of the slice xs, and its end
+pub turn : (mz intensity : List Float) (i : ℕ) (d : Float) {start : ℕ} {xs : List ℕ} {at : ℕ} {X : List ℕ} {next : ℕ} {Y : List ℕ}
+    → Put (linesTo mz intensity i) start xs at X → i < length mz → i < length intensity → Put (lineAt mz intensity i d) at X next Y
+    → Put (linesTo mz intensity (i + 1)) start xs next Y
+turn mz intensity i d p h k q = rw (add-one i, lines-more mz intensity i d h k) (put-then p q)
+
+pub end : (mz intensity : List Float) (i : ℕ) {start : ℕ} {xs : List ℕ} {at : ℕ} {X : List ℕ}
+    → Put (linesTo mz intensity i) start xs at X → min (length mz) (length intensity) ≤ i → Put (pairLines mz intensity) start xs at X
+end mz intensity i p h = rw (← lines-all mz intensity i h) p
+
+-- the first line has the count of pairs
+pub with-count : (number coefficients : ℕ) (mz intensity : List Float) (pairs : ℕ) → pairs ≡ min (length mz) (length intensity)
+    → line (ascii "S" ∷ decimal number ∷ decimal pairs ∷ decimal coefficients ∷ []) ++ pairLines mz intensity ≡ scanLines number coefficients mz intensity
+unfolding scanLines
+with-count number coefficients mz intensity pairs e = rw e

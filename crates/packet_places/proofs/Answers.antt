@@ -1,0 +1,103 @@
+-- What finding a packet's places answers, by what `packet` finds.
+-- Assumes nothing.
+use mathlib.Core.Path.{_≡_, ap, _∙_}
+use mathlib.Core.Logic.{⊎-elim}
+use Prim.Native.Nat.{ℕ, _+_}
+use native.Mathlib.Omega.{arith}
+use mathlib.Core.Bool.{Bool, true, false, cond}
+use mathlib.Core.List.{List}
+use lib.Dec.{eqb}
+use Rattle.refusal.specs.Outcome.{ok, refused, andThen}
+use Rattle.refusal.proofs.Outcomes.{made-of, Both, both-ok, one-refused}
+use Rattle.labels.specs.Labels.{readLabels}
+use Rattle.labels.specs.declared.Labels.{Labels}
+use Rattle.parser.specs.Parser.{done, parsed, parse, _>>=_}
+use Rattle.parser.proofs.Prefix.{parts}
+use Rattle.parser.proofs.Answered.{RanOut}
+use Rattle.packet_header.specs.Header.{readHeader}
+use Rattle.packet_header.specs.declared.PacketHeader.{PacketHeader}
+use Rattle.peak_list.specs.PeakList.{readPeaks}
+use Rattle.peak_list.specs.declared.PeakList.{PeakList}
+use Rattle.profile.specs.Profile.{Axis, Chunk, profile}
+use Rattle.scan_packet.specs.Packet.{Stored, absent, present, describeProfile}
+use Rattle.scan_packet.specs.Places.{withLabels}
+use Rattle.scan_packet.specs.declared.PacketProfile.{PacketProfile}
+use Rattle.scan_packet.specs.declared.Places.{Places}
+use Rattle.scan_packet.proofs.Found.{Stands}
+use Rattle.packet_places.specs.Packet.{stored, packet}
+use Rattle.packet_places.specs.Places.{findProfile, behindHeader, findPlaces}
+use Rattle.packet_places.proofs.Stages.{keep, header-short, k, stored-short, peaks-short, labels-short, whole}
+
+-- a profile that was kept was parsed
+was-parsed : (h : PacketHeader) (s : List ℕ) (place : ℕ) (p : Axis × List Chunk) (next : ℕ) (b : Bool)
+    → parse (cond b (done absent) (profile (h .layout) >>= keep)) s place ≡ parsed (present p) next → parse (profile (h .layout)) s place ≡ parsed p next
+unfolding keep parse
+was-parsed h s place p next true e = let c : _≡_ {A = ℕ} 0 1 = cc in absurd (omega arith)
+was-parsed h s place p next false e =
+    let w = parts (profile (h .layout)) keep s place e in
+    let a : w .first ≡ p = cc (w .there) in
+    let n : w .middle ≡ next = cc (w .there) in
+    w .here ∙ rw (a, n)
+
+pub present-parsed : (h : PacketHeader) (s : List ℕ) (place : ℕ) (p : Axis × List Chunk) (next : ℕ)
+    → parse (stored h) s place ≡ parsed (present p) next → parse (profile (h .layout)) s place ≡ parsed p next
+unfolding stored keep
+present-parsed h s place p next = was-parsed h s place p next (eqb (h .«profile_size») 0)
+
+-- the labels leave the profile as it was found
+with-profile : (s : List ℕ) (h : PacketHeader) (p : PacketProfile) (list : PeakList) {v : Places} → ok v ≡ withLabels h p list s → v .profile ≡ p
+unfolding withLabels
+with-profile s h p list e =
+    ap (λ (q : Places). q .profile) (made-of (λ (l : Labels). record { header = h; profile = p; list = list; labels = l }) (readLabels h (list .count) (list .next) s) e .made)
+
+module _ (s : List ℕ) (at : ℕ) where
+  -- a refusal of any stage
+  pub packet-short : {n : ℕ} {carries : List ℕ} → refused n carries ≡ findPlaces at s → RanOut 4 packet s at n carries
+  unfolding findPlaces behindHeader
+  packet-short {n} {carries} i =
+      ⊎-elim
+      (λ (e : refused n carries ≡ readHeader at s). header-short s at e)
+      (λ (b : Both (readHeader at s) (λ h. behindHeader h at s) (refused n carries)). behind (b .value) (b .first) (b .second))
+      (one-refused (λ h. behindHeader h at s) (readHeader at s) i)
+    where
+      last : (h : PacketHeader) → ok h ≡ readHeader at s → (p : PacketProfile × ℕ) → ok p ≡ findProfile h at s
+          → refused n carries ≡ andThen (readPeaks h (p .1) s) (λ list. withLabels h (p .0) list s) → RanOut 4 packet s at n carries
+      last h e p f j =
+          ⊎-elim
+          (λ (g : refused n carries ≡ readPeaks h (p .1) s). peaks-short s at h e (p .0) (p .1) f g)
+          (λ (b : Both (readPeaks h (p .1) s) (λ list. withLabels h (p .0) list s) (refused n carries)). labels-short s at h e (p .0) (p .1) f (b .value) (b .first) (b .second))
+          (one-refused (λ list. withLabels h (p .0) list s) (readPeaks h (p .1) s) j)
+
+      behind : (h : PacketHeader) → ok h ≡ readHeader at s
+          → refused n carries ≡ andThen (findProfile h at s) (λ p. andThen (readPeaks h (p .1) s) (λ list. withLabels h (p .0) list s)) → RanOut 4 packet s at n carries
+      behind h e j =
+          ⊎-elim
+          (λ (g : refused n carries ≡ findProfile h at s). stored-short s at h e g)
+          (λ (b : Both (findProfile h at s) (λ p. andThen (readPeaks h (p .1) s) (λ list. withLabels h (p .0) list s)) (refused n carries)). last h e (b .value) (b .first) (b .second))
+          (one-refused (λ p. andThen (readPeaks h (p .1) s) (λ list. withLabels h (p .0) list s)) (findProfile h at s) j)
+
+  -- the packet that stands at the places that were found, and its profile
+  pub record Standing (v : Places) : Type 0 where
+    pub header : PacketHeader
+    pub profile : Stored
+    pub next : ℕ
+    pub kept : parse (stored header) s (at + 40) ≡ parsed profile next
+    pub is : v .profile ≡ describeProfile (header .layout) at profile
+    pub stands : Stands packet s at profile v
+
+  pub standing : {v : Places} → ok v ≡ findPlaces at s → Standing v
+  unfolding findPlaces behindHeader
+  standing {v} i =
+      let a = both-ok (λ h. behindHeader h at s) (readHeader at s) i in
+      let b = both-ok (λ p. andThen (readPeaks (a .value) (p .1) s) (λ list. withLabels (a .value) (p .0) list s)) (findProfile (a .value) at s) (a .second) in
+      let p = b .value in
+      let c = both-ok (λ list. withLabels (a .value) (p .0) list s) (readPeaks (a .value) (p .1) s) (b .second) in
+      let t = k s at (a .value) (a .first) (p .0) (p .1) (b .first) in
+      record {
+        header = a .value;
+        profile = t .profile;
+        next = p .1;
+        kept = t .there;
+        is = with-profile s (a .value) (p .0) (c .value) (c .second) ∙ t .is;
+        stands = whole s at (a .value) (a .first) (p .0) (p .1) (b .first) (c .value) (c .first) (c .second);
+      }

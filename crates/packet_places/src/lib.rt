@@ -1,0 +1,61 @@
+// Where the parts of a packet stand, its profile judged chunk by chunk (`ScanDataPacket::read` of scan_data.rs). Nothing is
+// handed out.
+ghost use mathlib.Core.Path.{_≡_};
+ghost use Prim.Native.Nat.{_≤_};
+ghost use Rattle.parser.specs.Parser.{left};
+ghost use Rattle.scan_packet.specs.Places.{toldPlaces};
+ghost use Rattle.packet_places.specs.Places.{findProfile, behindHeader, findPlaces};
+ghost use Rattle.packet_places.specs.Told.{toldProfile};
+use packet_header::HeaderAnswer;
+use packet_header::PacketHeader;
+use peak_list::PeakListAnswer;
+use peak_list::read_peaks;
+use profile::Profile;
+use profile::ProfileAnswer;
+use refusal::Refusal;
+use scan_packet::PacketProfile;
+use scan_packet::PlacesAnswer;
+use scan_packet::with_labels;
+
+// A packet's profile, if it has one, and the place behind it.
+enum FoundProfile {
+    Found(PacketProfile, u64),
+    Refused(Refusal),
+}
+
+// The profile of the packet at a place, whose header is there.
+fn find_profile(run: &[u8], at: u64, h: PacketHeader) -> FoundProfile
+    requires { ⌜ 40 ≤ left (now run) at ⌝ }
+    ensures { λ r. ⌜ toldProfile r ≡ findProfile h at (now (run .entry)) ⌝ }
+{
+    if h.profile_size == 0 {
+        return FoundProfile::Found(PacketProfile::Absent, at + 40);
+    }
+    match Profile::read(run, at + 40, h.layout) {
+        ProfileAnswer::Refused(r) => FoundProfile::Refused(r),
+        ProfileAnswer::Profile(p, next) => FoundProfile::Found(PacketProfile::Present(p), next),
+    }
+}
+
+fn behind_header(run: &[u8], at: u64, h: PacketHeader) -> PlacesAnswer
+    requires { ⌜ 40 ≤ left (now run) at ⌝ }
+    ensures { λ r. ⌜ toldPlaces r ≡ behindHeader h at (now (run .entry)) ⌝ }
+{
+    match find_profile(run, at, h) {
+        FoundProfile::Refused(r) => PlacesAnswer::Refused(r),
+        FoundProfile::Found(profile, next) => match read_peaks(run, next, h) {
+            PeakListAnswer::Refused(r) => PlacesAnswer::Refused(r),
+            PeakListAnswer::List(list) => with_labels(run, h, profile, list),
+        },
+    }
+}
+
+// Where the parts of the packet at a place of the run stand.
+pub fn find_places(run: &[u8], at: u64) -> PlacesAnswer
+    ensures { λ r. ⌜ toldPlaces r ≡ findPlaces at (now (run .entry)) ⌝ }
+{
+    match PacketHeader::read(run, at) {
+        HeaderAnswer::Refused(r) => PlacesAnswer::Refused(r),
+        HeaderAnswer::Header(h) => behind_header(run, at, h),
+    }
+}

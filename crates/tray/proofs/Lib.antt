@@ -1,0 +1,7 @@
+pub mod Parts
+pub mod Handed
+pub mod Results
+pub mod Scans
+pub mod Walk
+pub mod Told
+pub mod LongerBytes

@@ -1,0 +1,120 @@
+-- Data that were found are what their parser finds, and a refusal is its refusal, whatever follows.
+-- Assumes nothing.
+use mathlib.Core.Path.{_≡_, refl, ap, sym, _∙_}
+use Prim.Native.Nat.{ℕ, _+_, _-_}
+use mathlib.Core.Bool.{false}
+use mathlib.Core.List.{List}
+use lib.ListN.{length}
+use Rattle.refusal.specs.Outcome.{Outcome, ok, refused}
+use Rattle.refusal.proofs.Outcomes.{made-of, refused-of}
+use Rattle.parser.specs.Parser.{parsed, parse}
+use Rattle.parser.specs.Walk.{sum}
+use Rattle.parser.specs.Call.{outcome, single}
+use Rattle.parser.proofs.Answered.{made-part}
+use Rattle.scan_format.specs.declared.ScanDataFormat.{ScanDataFormat}
+use Rattle.scan_format.specs.declared.ScanDataFormat.the-variants.{PacketHeader, FlatV63, FlatV66}
+use Rattle.peak_list.specs.PeakList.{itemSize}
+use Rattle.profile.specs.Profile.{isFudged, Axis, Chunk, points, located}
+use Rattle.profile.proofs.Answers.{profile-chunks}
+use Rattle.scan_packet.specs.Packet.{Stored, absent, present, describeProfile}
+use Rattle.scan_packet.specs.Places.{peaksOf}
+use Rattle.scan_packet.specs.declared.Places.{Places}
+use Rattle.packet_header.specs.declared.PacketHeader as head
+use Rattle.packet_places.specs.Packet.{stored, packet}
+use Rattle.packet_places.specs.Places.{findPlaces}
+use Rattle.packet_places.proofs.Answers.{present-parsed, packet-short, Standing, standing}
+use Rattle.flat.specs.Flat.{Attempt, accepted, passedOver, flatPeaks, ofAccepted, findFlatPeaks}
+use Rattle.flat.proofs.Answers as flat
+use Rattle.srm.specs.Scan.{scan, peaks, findPeaks}
+use Rattle.srm.proofs.Answers as srm
+use Rattle.pairs.specs.Pairs.{chunksOf}
+use Rattle.pairs.proofs.Profiles.{chunks-parsed}
+use Rattle.pairs.proofs.Writing.{length-pairs}
+use Rattle.pairs.proofs.PeakPairs.{length-peak-pairs}
+use Rattle.tray_data.specs.Data.{Content, profile, centroids, contentOf, given, ofAttempt, ofFinding, dataStart, scanData, pairs, packetData, narrowPeaks, findData, contentAt, countOf}
+use Rattle.tray_data.specs.declared.ScanData.{ScanData}
+
+-- ---- a packet
+module _ (s : List ℕ) (at : ℕ) (h : head.PacketHeader) where
+  chunks-are : (p : Axis × List Chunk) (next : ℕ) → parse (stored h) s (at + 40) ≡ parsed (present p) next → chunksOf (located (h .layout) (at + 40) p) s ≡ p .1
+  unfolding located
+  chunks-are p next e =
+      chunks-parsed (isFudged (h .layout)) s (p .0 .peakCount) (at + 40 + 24) (profile-chunks (h .layout) s (at + 40) (present-parsed h s (at + 40) p next e))
+
+  content-is : (p : Stored) (next : ℕ) → parse (stored h) s (at + 40) ≡ parsed p next → (v : Places)
+      → contentAt (packetData (describeProfile (h .layout) at p) v) s ≡ contentOf p (peaksOf v s)
+  unfolding located
+  content-is absent next e v = refl
+  content-is (present p) next e v = ap (profile (record { «first_value» = p .0 .firstValue; step = p .0 .step })) (chunks-are p next e)
+
+  count-is : (p : Stored) (next : ℕ) → parse (stored h) s (at + 40) ≡ parsed p next → (v : Places) (coefficients : List ℕ)
+      → length (pairs coefficients (contentAt (packetData (describeProfile (h .layout) at p) v) s)) ≡ countOf (packetData (describeProfile (h .layout) at p) v)
+  unfolding pairs located
+  count-is absent next e v coefficients = length-peak-pairs (v .list .wide) (itemSize (v .list .wide)) s (v .list .at) (v .list .count)
+  count-is (present p) next e v coefficients = length-pairs _ coefficients _ ∙ ap (sum points) (chunks-are p next e)
+
+packet-content : (s : List ℕ) (at : ℕ) {v : Places} (t : Standing s at v) → contentAt (packetData (v .profile) v) s ≡ contentOf (t .stands .packet .profile) (t .stands .packet .peaks)
+packet-content s at {v} t =
+    ap (λ p. contentAt (packetData p v) s) (t .is)
+    ∙ content-is s at (t .header) (t .profile) (t .next) (t .kept) v
+    ∙ rw (t .stands .profile-is, ← t .stands .peaks)
+
+-- ---- any data
+module _ (place offset size : ℕ) (s : List ℕ) where
+  -- so many pairs
+  pub data-count : (format : ScanDataFormat) {d : ScanData} → ok d ≡ findData format place offset size s → (coefficients : List ℕ)
+      → length (pairs coefficients (contentAt d s)) ≡ countOf d
+  unfolding findData pairs
+  data-count PacketHeader e coefficients =
+      let m = made-of (λ (v : Places). packetData (v .profile) v) (findPlaces (dataStart place offset) s) e in
+      let v = m .value in
+      let t = standing s (dataStart place offset) (m .is) in
+      let same = m .made ∙ ap (λ p. packetData p v) (t .is) in
+      rw same (count-is s (dataStart place offset) (t .header) (t .profile) (t .next) (t .kept) v coefficients)
+  data-count FlatV63 e coefficients =
+      let m = made-of (narrowPeaks 8) (findFlatPeaks place offset size s) e in
+      rw (m .made) (length-peak-pairs false 8 s (m .value .0) (m .value .1))
+  data-count FlatV66 e coefficients =
+      let m = made-of (narrowPeaks 12) (findPeaks place offset s) e in
+      rw (m .made) (length-peak-pairs false 12 s (m .value .0) (m .value .1))
+
+module _ {A : Type 0} (follow : Content → Outcome A) (place offset size : ℕ) (s : List ℕ) where
+  -- peaks that were accepted, or not
+  after-attempt : (a : Attempt) → ofFinding follow (ofAttempt a) ≡ ofAccepted (λ _ ps. follow (centroids ps)) a
+  after-attempt (accepted p ps) = refl
+  after-attempt passedOver = refl
+
+  pub data-found : (format : ScanDataFormat) {d : ScanData} → ok d ≡ findData format place offset size s
+      → follow (contentAt d s) ≡ outcome (single 4 (dataStart place offset) (scanData format (dataStart place offset) offset size) (λ f _. ofFinding follow f)) s
+  unfolding findData scanData outcome
+  data-found PacketHeader e =
+      let m = made-of (λ (v : Places). packetData (v .profile) v) (findPlaces (dataStart place offset) s) e in
+      let t = standing s (dataStart place offset) (m .is) in
+      ap (λ d. follow (contentAt d s)) (m .made)
+      ∙ ap follow (packet-content s (dataStart place offset) t)
+      ∙ sym (made-part 4 (dataStart place offset) packet (λ p. given (contentOf (p .profile) (p .peaks))) (λ f _. ofFinding follow f) (λ p _. follow (contentOf (p .profile) (p .peaks))) (λ _ _. refl) s
+      ∙ rw (t .stands .there))
+  data-found FlatV63 e =
+      let m = made-of (narrowPeaks 8) (findFlatPeaks place offset size s) e in
+      ap (λ d. follow (contentAt d s)) (m .made)
+      ∙ flat.then-found (λ ps. follow (centroids ps)) place offset size s (m .value .0) (m .value .1) (m .is)
+      ∙ sym (made-part 4 (dataStart place offset) (flatPeaks (dataStart place offset) offset size) ofAttempt (λ f _. ofFinding follow f) _ (λ a _. after-attempt a) s)
+  data-found FlatV66 e =
+      let m = made-of (narrowPeaks 12) (findPeaks place offset s) e in
+      ap (λ d. follow (contentAt d s)) (m .made)
+      ∙ srm.then-found (λ ps. follow (centroids ps)) place offset s (m .value .0) (m .value .1) (m .is)
+      ∙ sym (made-part 4 (dataStart place offset) (scan peaks) (λ ps. given (centroids ps)) (λ f _. ofFinding follow f) _ (λ _ _. refl) s)
+
+  pub data-refused : (format : ScanDataFormat) {n : ℕ} {carries : List ℕ} → refused n carries ≡ findData format place offset size s
+      → refused n carries ≡ outcome (single 4 (dataStart place offset) (scanData format (dataStart place offset) offset size) (λ f _. ofFinding follow f)) s
+  unfolding findData scanData outcome
+  data-refused PacketHeader e =
+      let r = packet-short s (dataStart place offset) (refused-of (λ (v : Places). packetData (v .profile) v) (findPlaces (dataStart place offset) s) e) in
+      sym (made-part 4 (dataStart place offset) packet (λ p. given (contentOf (p .profile) (p .peaks))) (λ f _. ofFinding follow f) (λ p _. follow (contentOf (p .profile) (p .peaks))) (λ _ _. refl) s
+      ∙ rw (r .there, r .one, r .part))
+  data-refused FlatV63 e =
+      flat.then-refused (λ ps. follow (centroids ps)) place offset size s (refused-of (narrowPeaks 8) (findFlatPeaks place offset size s) e)
+      ∙ sym (made-part 4 (dataStart place offset) (flatPeaks (dataStart place offset) offset size) ofAttempt (λ f _. ofFinding follow f) _ (λ a _. after-attempt a) s)
+  data-refused FlatV66 e =
+      srm.then-refused (λ ps. follow (centroids ps)) place offset s (refused-of (narrowPeaks 12) (findPeaks place offset s) e)
+      ∙ sym (made-part 4 (dataStart place offset) (scan peaks) (λ ps. given (centroids ps)) (λ f _. ofFinding follow f) _ (λ _ _. refl) s)

@@ -1,0 +1,4 @@
+pub mod Written
+pub mod Answers
+pub mod Told
+pub mod LongerBytes

@@ -1,0 +1,52 @@
+-- Demand 3 for the data of a scan. The data size has 32 bits.
+-- Assumes nothing.
+use Prim.Native.Nat.{ℕ, _^_, _<_}
+use lib.Dec.{lit≤}
+use Rattle.refusal.specs.Outcome.{Outcome}
+use Rattle.parser.specs.Parser.{done}
+use Rattle.parser.specs.LongerBytes.{PrefixProperty, Completes}
+use Rattle.parser.proofs.Completion.{Bounded, bounded-bind, yields-any}
+use Rattle.parser.proofs.Calls.{Settled}
+use Rattle.parser.proofs.Behind.{on-ok-prefix, on-ok-completes}
+use Rattle.scan_format.specs.declared.ScanDataFormat.{ScanDataFormat}
+use Rattle.scan_format.specs.declared.ScanDataFormat.the-variants.{PacketHeader, FlatV63, FlatV66}
+use Rattle.scan_packet.specs.declared.Places.{Places}
+use Rattle.packet_places.specs.Packet.{packet}
+use Rattle.packet_places.specs.Places.{findPlaces}
+use Rattle.packet_places.proofs.LongerBytes.{packet-bounded, places-prefix, places-completes}
+use Rattle.flat.specs.Flat.{flatPeaks, findFlatPeaks}
+use Rattle.flat.proofs.LongerBytes.{flat-bounded}
+use Rattle.flat.proofs.LongerBytes as flat
+use Rattle.srm.specs.Scan.{scan, peaks, findPeaks}
+use Rattle.srm.proofs.LongerBytes.{peaks-bounded}
+use Rattle.srm.proofs.LongerBytes as srm
+use Rattle.tray_data.specs.Data.{Content, centroids, contentOf, Finding, given, implausible, ofAttempt, ofFinding, dataStart, scanData, packetData, narrowPeaks, findData}
+
+module _ (place offset size : ℕ) where
+  pub data-prefix : (format : ScanDataFormat) → PrefixProperty (findData format place offset size)
+  unfolding findData
+  data-prefix PacketHeader = on-ok-prefix (λ (v : Places). packetData (v .profile) v) (findPlaces (dataStart place offset)) (places-prefix (dataStart place offset))
+  data-prefix FlatV63 = on-ok-prefix (narrowPeaks 8) (findFlatPeaks place offset size) (flat.find-prefix place offset size)
+  data-prefix FlatV66 = on-ok-prefix (narrowPeaks 12) (findPeaks place offset) (srm.find-prefix place offset)
+
+  pub data-completes : size < 2 ^ 32 → (format : ScanDataFormat) → Completes 4 (dataStart place offset) (findData format place offset size)
+  unfolding findData
+  data-completes h PacketHeader =
+      on-ok-completes (λ (v : Places). packetData (v .profile) v) (findPlaces (dataStart place offset)) 4 (dataStart place offset) (places-completes (dataStart place offset))
+  data-completes h FlatV63 = on-ok-completes (narrowPeaks 8) (findFlatPeaks place offset size) 4 (dataStart place offset) (flat.find-completes place offset size h)
+  data-completes h FlatV66 = on-ok-completes (narrowPeaks 12) (findPeaks place offset) 4 (dataStart place offset) (srm.find-completes place offset)
+
+-- the parser's own bound, for calls of several parts
+pub data-bounded : (at offset size : ℕ) → at < 2 ^ 62 → size < 2 ^ 32 → (format : ScanDataFormat) → Bounded (2 ^ 62) (2 ^ 61) (scanData format at offset size)
+unfolding scanData
+data-bounded at offset size low h PacketHeader =
+    bounded-bind (λ _. Unit {0}) (λ p. done (given (contentOf (p .profile) (p .peaks)))) (2 ^ 62) (2 ^ 61) 0 (λ _ _. lit≤ tt) (λ _ _. tt) packet (yields-any packet) packet-bounded
+data-bounded at offset size low h FlatV63 =
+    bounded-bind (λ _. Unit {0}) (λ a. done (ofAttempt a)) (2 ^ 62) (2 ^ 61) 0 (λ _ _. lit≤ tt) (λ _ _. tt)
+    (flatPeaks at offset size) (yields-any (flatPeaks at offset size)) (flat-bounded at offset size low h)
+data-bounded at offset size low h FlatV66 =
+    bounded-bind (λ _. Unit {0}) (λ ps. done (given (centroids ps))) (2 ^ 62) (2 ^ 61) 0 (λ _ _. lit≤ tt) (λ _ _. tt) (scan peaks) (yields-any (scan peaks)) peaks-bounded
+
+pub finding-settled : {A : Type 0} (f : Content → Outcome A) → ((content : Content) → Settled (f content)) → (x : Finding) → Settled (ofFinding f x)
+finding-settled f h (given content) = h content
+finding-settled f h implausible = tt

@@ -1,0 +1,128 @@
+// The data of a scan, by the format of its run: a packet, flat peaks or an SRM scan. They are found first, so that a scan is
+// judged whole before anything is written, and their pairs are written after.
+ghost use mathlib.Core.Path.{_≡_};
+ghost use Rattle.lists.specs.Written.{fitting};
+ghost use Rattle.pairs.specs.Pairs.{masses, intensities};
+ghost use Rattle.refusal.specs.Outcome.{onOk};
+ghost use Rattle.peaks.specs.Peaks.{toldPlace};
+ghost use Rattle.packet_places.specs.Places.{findPlaces};
+ghost use Rattle.tray_data.specs.Data.{packetData, narrowPeaks, pairs, findData, contentAt, countOf, told};
+use flat::find_flat_peaks;
+use packet_places::find_places;
+use pairs::write_pairs;
+use pairs::write_peak_pairs;
+use peak_list::item_size;
+use peaks::PeaksPlace;
+use profile::Profile;
+use reader::saturating_add;
+use refusal::Refusal;
+use scan_format::ScanDataFormat;
+use scan_packet::PacketProfile;
+use scan_packet::Places;
+use scan_packet::PlacesAnswer;
+use srm::find_srm_peaks;
+
+// Peaks at equal distances: an m/z, and right behind it the abundance.
+pub struct PeakRow {
+    pub at: u64,
+    pub stride: u64,
+    pub count: u64,
+    // The m/z is stored as an f64.
+    pub wide: bool,
+}
+
+pub enum ScanData {
+    Profile(Profile),
+    Peaks(PeakRow),
+}
+
+pub enum DataAnswer {
+    Data(ScanData),
+    Refused(Refusal),
+}
+
+// A packet's profile, if it has one, else its peaks.
+fn packet_data(places: Places) -> ScanData
+    ensures { λ r. ⌜ r ≡ packetData (places .profile) places ⌝ }
+{
+    let list = places.list;
+    let profile = places.profile;
+    match profile {
+        PacketProfile::Present(p) => ScanData::Profile(p),
+        PacketProfile::Absent => ScanData::Peaks(PeakRow {
+            at: list.at,
+            stride: item_size(list.wide),
+            count: list.count,
+            wide: list.wide,
+        }),
+    }
+}
+
+fn narrow_peaks(found: PeaksPlace, stride: u64) -> DataAnswer
+    ensures { λ r. ⌜ told r ≡ onOk (narrowPeaks stride) (toldPlace found) ⌝ }
+{
+    match found {
+        PeaksPlace::Refused(r) => DataAnswer::Refused(r),
+        PeaksPlace::At { place, count } => DataAnswer::Data(ScanData::Peaks(PeakRow {
+            at: place,
+            stride,
+            count,
+            wide: false,
+        })),
+    }
+}
+
+fn find_packet(run: &[u8], at: u64) -> DataAnswer
+    ensures { λ r. ⌜ told r ≡ onOk (λ v. packetData (v .profile) v) (findPlaces at (now (run .entry))) ⌝ }
+{
+    match find_places(run, at) {
+        PlacesAnswer::Refused(r) => DataAnswer::Refused(r),
+        PlacesAnswer::Places(places) => DataAnswer::Data(packet_data(places)),
+    }
+}
+
+// The data at `data` and `offset`, in a run of this format.
+pub fn find_data(
+    run: &[u8],
+    format: ScanDataFormat,
+    data: u64,
+    offset: u64,
+    size: u32,
+) -> DataAnswer
+    ensures { λ r. ⌜ told r ≡ findData format «data» offset size (now (run .entry)) ⌝ }
+{
+    match format {
+        ScanDataFormat::PacketHeader => find_packet(run, saturating_add(data, offset)),
+        ScanDataFormat::FlatV63 => narrow_peaks(find_flat_peaks(run, data, offset, size), 8),
+        ScanDataFormat::FlatV66 => narrow_peaks(find_srm_peaks(run, data, offset), 12),
+    }
+}
+
+// How many pairs data that were found give.
+pub fn pair_count(found: ScanData) -> u64
+    ensures { λ r. ⌜ r ≡ countOf found ⌝ }
+{
+    match found {
+        ScanData::Profile(p) => p.points,
+        ScanData::Peaks(w) => w.count,
+    }
+}
+
+// The pairs of data that were found, over the fronts of the lent slices, as far as they go.
+pub fn write_data_pairs(
+    run: &[u8],
+    found: ScanData,
+    coefficients: &[u64],
+    mz: &mut [f64],
+    intensity: &mut [f64],
+)
+    ensures { λ _. ⌜ now (mz .exit) ≡ fitting (masses (pairs (now (coefficients .entry)) (contentAt found (now (run .entry))))) (now (mz .entry)) ⌝ }
+    ensures { λ _. ⌜ now (intensity .exit) ≡ fitting (intensities (pairs (now (coefficients .entry)) (contentAt found (now (run .entry))))) (now (intensity .entry)) ⌝ }
+{
+    match found {
+        ScanData::Profile(p) => write_pairs(run, p, coefficients, mz, intensity),
+        ScanData::Peaks(w) => {
+            write_peak_pairs(run, w.at, w.stride, w.count, w.wide, mz, intensity)
+        }
+    }
+}
