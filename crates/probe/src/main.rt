@@ -12,6 +12,7 @@ mod scan_events;
 mod scans;
 mod searches;
 mod serve;
+mod trays;
 mod values;
 mod words;
 

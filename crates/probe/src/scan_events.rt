@@ -23,22 +23,22 @@ enum Reading {
 }
 
 // The fields P, Q, R and C, and where they end.
-struct Lengths {
-    preamble: usize,
-    precursors: usize,
-    energies: usize,
-    coefficients: usize,
-    end: usize,
+pub struct EventLengths {
+    pub preamble: usize,
+    pub precursors: usize,
+    pub energies: usize,
+    pub coefficients: usize,
+    pub end: usize,
 }
 
-fn lent_lengths(line: &[u8], at: usize) -> Lengths
+pub(crate) fn lent_lengths(line: &[u8], at: usize) -> EventLengths
     ensures { λ r. ⌜ (r .preamble ≤ 256) × (r .precursors ≤ 64) × (r .energies ≤ 64) × (r .coefficients ≤ 64) ⌝ }
 {
     let preamble = request::number(line, at, PREAMBLE);
     let precursors = request::number(line, preamble.end, LENT);
     let energies = request::number(line, precursors.end, LENT);
     let coefficients = request::number(line, energies.end, LENT);
-    Lengths {
+    EventLengths {
         preamble: request::preamble_length(preamble.value),
         precursors: request::lent_length(precursors.value),
         energies: request::lent_length(energies.value),
@@ -66,7 +66,7 @@ fn put_window(out: &mut [u8], n: usize, window: Window) -> usize {
 // The fields of an event: those up to its window's ends, and all.
 fn put_lists(out: &mut [u8], n: usize, e: ScanEvent) -> usize {
     let window = e.window;
-    let n = answer::ok_number(out, n, e.preamble_len);
+    let n = answer::number(out, n, e.preamble_len);
     let n = answer::number(out, n, e.reactions);
     let n = answer::number(out, n, e.coefficients);
     let n = put_window(out, n, window);
@@ -74,7 +74,7 @@ fn put_lists(out: &mut [u8], n: usize, e: ScanEvent) -> usize {
     answer::bits64(out, n, e.high_mz)
 }
 
-fn put_event(out: &mut [u8], n: usize, e: ScanEvent) -> usize {
+pub(crate) fn put_event(out: &mut [u8], n: usize, e: ScanEvent) -> usize {
     let settings = e.preamble;
     let activation = e.activation;
     let n = put_lists(out, n, e);
@@ -85,12 +85,28 @@ fn put_event(out: &mut [u8], n: usize, e: ScanEvent) -> usize {
 
 fn put_answer(out: &mut [u8], n: usize, answer: EventAnswer) -> usize {
     match answer {
-        EventAnswer::Event(e) => put_event(out, n, e),
+        EventAnswer::Event(e) => {
+            let n = answer::ok(out, n);
+            put_event(out, n, e)
+        }
         EventAnswer::Refused(refusal) => answer::refused(out, n, refusal),
     }
 }
 
-fn put_slices(
+// The slices lent for an event.
+pub(crate) fn fill_slices(
+    preamble: &mut [u8],
+    precursors: &mut [u64],
+    energies: &mut [u64],
+    coefficients: &mut [u64],
+) {
+    request::fill(preamble);
+    request::fill64(precursors);
+    request::fill64(energies);
+    request::fill64(coefficients);
+}
+
+pub(crate) fn put_slices(
     out: &mut [u8],
     n: usize,
     preamble: &[u8],
@@ -113,10 +129,7 @@ fn read(
     energies: &mut [u64],
     coefficients: &mut [u64],
 ) -> EventAnswer {
-    request::fill(preamble);
-    request::fill64(precursors);
-    request::fill64(energies);
-    request::fill64(coefficients);
+    fill_slices(preamble, precursors, energies, coefficients);
     match reading {
         Reading::Any {
             version,

@@ -70,7 +70,7 @@ fn put_floats(out: &mut [u8], n: usize, e: ScanIndexEntry) -> usize {
     answer::bits64(out, n, e.high_mz)
 }
 
-fn put_entry(out: &mut [u8], n: usize, e: ScanIndexEntry) -> usize {
+pub(crate) fn put_entry(out: &mut [u8], n: usize, e: ScanIndexEntry) -> usize {
     let n = answer::ok_number(out, n, e.index as u64);
     let n = answer::number(out, n, e.scan_event as u64);
     let n = answer::number(out, n, e.scan_segment as u64);

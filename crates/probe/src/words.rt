@@ -9,6 +9,7 @@ use crate::records;
 use crate::scan_events;
 use crate::scans;
 use crate::searches;
+use crate::trays;
 use crate::values;
 
 pub(crate) fn answer_request(line: &[u8], data: &mut [u8], out: &mut [u8], n: usize) -> usize {
@@ -168,6 +169,23 @@ fn of_searches(
     }
     if check::same(word, b"channels") {
         return searches::channels(line, at, data, out, n);
+    }
+    of_trays(word, line, at, data, out, n)
+}
+
+fn of_trays(
+    word: &[u8],
+    line: &[u8],
+    at: usize,
+    data: &mut [u8],
+    out: &mut [u8],
+    n: usize,
+) -> usize {
+    if check::same(word, b"scan") {
+        return trays::scan(line, at, data, out, n);
+    }
+    if check::same(word, b"scan_from") {
+        return trays::scan_from(line, at, data, out, n);
     }
     of_names(word, line, at, out, n)
 }
