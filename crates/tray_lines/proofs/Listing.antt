@@ -1,13 +1,12 @@
 -- The listing as a whole: what the program prints scan by scan is the listing's text, and its buffer holds every text.
 -- Assumes nothing.
 use mathlib.Core.Path.{_≡_, ap}
-use Prim.Native.Nat.{ℕ, _*_, _+_, _^_, _≤_, _<_, min}
+use Prim.Native.Nat.{ℕ, _^_, _≤_, _<_, min}
 use native.Mathlib.Omega.{arith}
 use mathlib.Core.List.{List}
 use lib.ListN.{length, length-map}
 use Rattle.refusal.specs.Outcome.{ok}
 use Rattle.pairs.specs.Pairs.{Pair, masses, intensities}
-use Rattle.lines.specs.Lines.{scanLines}
 use Rattle.lines.proofs.Room.{scan-room}
 use Rattle.tray.specs.Scan.{Decoded, readScan, readScanFrom, placeOf}
 use Rattle.tray.proofs.Walk.{same-answers}
