@@ -8,10 +8,10 @@ use crate::request::U64;
 use crate::scan_events;
 use crate::scan_events::EventLengths;
 use crate::scans;
-use tray::Scan;
-use tray::ScanAnswer;
 use tray::read_scan;
 use tray::read_scan_from;
+use tray_scan::Scan;
+use tray_scan::ScanAnswer;
 
 // Which function reads the scan, and what it is given beside the tray: the scan's number, and the place of its event if
 // that is not walked to.

@@ -18,7 +18,8 @@ use Rattle.pairs.specs.Pairs.{Pair}
 use Rattle.tray_header.specs.Header.{readTrayHeader}
 use Rattle.tray_header.specs.declared.TrayHeader.{TrayHeader}
 use Rattle.tray_data.specs.Data.{Content, Finding, given, implausible, ofFinding, pairs}
-use Rattle.tray.specs.Scan.{Lengths, Decoded, handOut, withData, scanFrom, numbered, readScanFrom}
+use Rattle.tray_scan.specs.Scan.{Lengths, Decoded, handOut, withData, eventAndData}
+use Rattle.tray.specs.Scan.{scanFrom, numbered, readScanFrom}
 
 pub record Consistent (lent : Lengths) (d : Decoded) : Type 0 where
   pub count : d .scan .pairs ≡ length (d .pairs)
@@ -72,7 +73,7 @@ module _ (lent : Lengths) where
   found-out entry e next implausible = tt
 
   from-gives : (k at : ℕ) (h : TrayHeader) → Gives (Consistent lent) (scanFrom lent k at h)
-  unfolding scanFrom withData
+  unfolding scanFrom eventAndData withData
   from-gives k at h = λ entry _ e next x _. found-out entry e next x
 
   pub consistent : (k at : ℕ) (s : List ℕ) {d : Decoded} → ok d ≡ readScanFrom lent k at s → Consistent lent d

@@ -5,9 +5,9 @@ use mathlib.Core.Logic.{inl, inr}
 use Prim.Native.Nat.{ℕ, _+_, _*_, _^_, _<_}
 use native.Mathlib.Nat.{mul-le-mul-left}
 use native.Mathlib.Omega.{arith}
-use mathlib.Core.Bool.{Bool, true, false, cond, _&&_}
+use mathlib.Core.Bool.{Bool, true, false, cond}
 use mathlib.Core.List.{List, [], _++_}
-use lib.Dec.{leb, ltb, lit<, lit≤}
+use lib.Dec.{ltb, lit<}
 use lib.ListN.{length, drop}
 use borrow.Author.Tests.{ltb-true}
 use Rattle.refusal.specs.Outcome.{ok, refused, ranOut}
@@ -17,22 +17,24 @@ use Rattle.parser.specs.LongerBytes.{Bytes, Held, PrefixProperty, Completes}
 use Rattle.parser.proofs.Fixed.{sized-raw}
 use Rattle.parser.proofs.Completion.{Bounded, bounded-more, yields-parsed, drop-bytes}
 use Rattle.parser.proofs.Asks.{Any, asks-sized, asks-bind, asks-repeat}
-use Rattle.parser.proofs.Calls.{Settled, settled-cond, Avoids, Covers}
+use Rattle.parser.proofs.Calls.{Avoids, Covers}
 use Rattle.parser.proofs.Behind.{behind-prefix, head-completes, behind-completes}
 use Rattle.scan_index.specs.Entry.{entrySize, readEntry}
 use Rattle.scan_index.specs.Entry as Entry
 use Rattle.scan_index.specs.declared.ScanIndexEntry.{ScanIndexEntry}
 use Rattle.scan_index.proofs.Size.{entry-most, entry-sized}
 use Rattle.scan_index.proofs.LongerBytes.{entry-sizable}
-use Rattle.scan_event.specs.Event.{Event, hasRoom}
+use Rattle.scan_event.specs.Event.{Event}
 use Rattle.event_walk.proofs.LongerBytes.{event-asks}
 use Rattle.tray_header.specs.Header.{readTrayHeader}
 use Rattle.tray_header.specs.declared.TrayHeader.{TrayHeader}
 use Rattle.tray_header.proofs.Found.{Whole, whole, header-part, words}
 use Rattle.tray_header.proofs.LongerBytes.{tray-header-prefix, tray-header-completes}
-use Rattle.tray_data.specs.Data.{Content, dataStart, pairs}
+use Rattle.tray_data.specs.Data.{dataStart}
 use Rattle.tray_data.proofs.LongerBytes.{data-bounded, finding-settled}
-use Rattle.tray.specs.Scan.{formatIn, eventIn, entryIn, kthEvent, Lengths, Decoded, handOut, withData, scanIn, scanFrom, numbered, overRun, readScan, readScanFrom}
+use Rattle.tray_scan.proofs.LongerBytes.{settled, event-bounded}
+use Rattle.tray_scan.specs.Scan.{formatIn, eventIn, Lengths, Decoded, handOut, withData, eventAndData}
+use Rattle.tray.specs.Scan.{entryIn, kthEvent, scanIn, scanFrom, numbered, overRun, readScan, readScanFrom}
 use Rattle.tray.proofs.Parts.{entry-alone}
 
 -- ---- what the parts ask for
@@ -47,9 +49,6 @@ module _ (h : TrayHeader) (k : ℕ) (few : k < 4096) where
       (skip n) (asks-sized (2 ^ 62) n (skip n) (sized-raw n)) .bounded)
 
   module _ (p : h .primary < 2 ^ 32) (d : h .dependent < 2 ^ 32) where
-    event-bounded : Bounded (2 ^ 62) (2 ^ 61) (eventIn h)
-    event-bounded = bounded-more (2 ^ 62) (2 ^ 39) (2 ^ 61) (eventIn h) (lit≤ tt) (event-asks (h .version) (h .primary) (h .dependent) p d .bounded)
-
     kth-bounded : Bounded (2 ^ 62) (2 ^ 61) (kthEvent h k)
     unfolding kthEvent
     kth-bounded =
@@ -57,13 +56,6 @@ module _ (h : TrayHeader) (k : ℕ) (few : k < 4096) where
         let many = asks-repeat (2 ^ 62) (2 ^ 39) (2 ^ 39) k (eventIn h) Any one (one .zeros) in
         bounded-more (2 ^ 62) (2 ^ 39 + k * 2 ^ 39 + 2 ^ 39) (2 ^ 61) (repeat k (eventIn h) >> eventIn h) (omega arith)
         (asks-bind (2 ^ 62) (2 ^ 39 + k * 2 ^ 39) (2 ^ 39) Any Any (λ _. eventIn h) (λ _ _. one) (repeat k (eventIn h)) many .bounded)
-
-settled : (lent : Lengths) (entry : ScanIndexEntry) (e : Event) (next : ℕ) (content : Content) → Settled (handOut lent entry e next content)
-unfolding handOut
-settled lent entry e next content =
-    let ps = pairs (e .coefficients) content in
-    settled-cond (leb (length ps) (lent .mz) && leb (length ps) (lent .intensity) && hasRoom (lent .event) (length (e .preamble)) (length (e .reactions)) (length (e .coefficients)))
-    _ (refused 8 []) tt tt
 
 -- the data of scan k start below 2^62, if the header and the entry say where
 abbrev pub DataNear : ℕ → List ℕ → Type 0
@@ -203,24 +195,24 @@ module _ (lent : Lengths) (k : ℕ) where
   -- the same, where event k is read at a place that the caller gives
   module _ (at : ℕ) where
     pub from-prefix : PrefixProperty (readScanFrom lent k at)
-    unfolding readScanFrom scanFrom scanBy
+    unfolding readScanFrom scanFrom eventAndData scanBy
     from-prefix = by-prefix lent k (λ _. at) eventIn
 
     pub from-header-completes : Completes 1 0 (readScanFrom lent k at)
-    unfolding readScanFrom scanFrom scanBy
+    unfolding readScanFrom scanFrom eventAndData scanBy
     from-header-completes = by-header lent k (λ _. at) eventIn
 
     pub from-index-completes : Completes 2 0 (readScanFrom lent k at)
-    unfolding readScanFrom scanFrom scanBy
+    unfolding readScanFrom scanFrom eventAndData scanBy
     from-index-completes s isBytes few _ = by-index lent k (λ _. at) eventIn s isBytes few
 
     pub from-event-completes : Completes 3 at (readScanFrom lent k at)
-    unfolding readScanFrom scanFrom scanBy
+    unfolding readScanFrom scanFrom eventAndData scanBy
     from-event-completes s isBytes few low =
         by-events lent k (λ _. at) eventIn s isBytes few
-        (λ h i l. let w = words s (whole s (sym i)) isBytes in (low, event-bounded h k l (w .primary) (w .dependent)))
+        (λ h i l. let w = words s (whole s (sym i)) isBytes in (low, event-bounded h (w .primary) (w .dependent)))
 
     pub from-data-completes : (s : List ℕ) → Bytes s → length s < 2 ^ 62 → DataNear k s → readScanFrom lent k at s ≡ ranOut 4
         → (t : List ℕ) × Held (s ++ t) × (readScanFrom lent k at (s ++ t) ≡ ranOut 4 → ⊥)
-    unfolding readScanFrom scanFrom scanBy
+    unfolding readScanFrom scanFrom eventAndData scanBy
     from-data-completes s isBytes few = by-data lent k (λ _. at) eventIn s isBytes few

@@ -14,22 +14,19 @@ use Rattle.scan_index.specs.declared.ScanIndexEntry.{ScanIndexEntry}
 use Rattle.event_walk.specs.Walk.{eventEnd, eventPlace}
 use Rattle.tray_header.specs.Header.{readTrayHeader}
 use Rattle.tray_header.specs.declared.TrayHeader.{TrayHeader}
-use Rattle.tray.specs.Scan.{eventIn, kthEvent, Lengths, Decoded, withData, scanIn, scanFrom, overRun, placeOr, nextEvent, placeOf}
-use Rattle.tray.specs.Behind.{behindEntry}
+use Rattle.tray_scan.specs.Scan.{Lengths, Decoded, withData, eventAndData, scanOfEntry}
+use Rattle.tray.specs.Scan.{kthEvent, scanIn, scanFrom, overRun, placeOr, nextEvent, placeOf}
 use Rattle.tray.proofs.Parts.{entry-found, entry-short, place-found, place-short}
 
 module _ (lent : Lengths) (h : TrayHeader) (k : ℕ) (s : List ℕ) where
-  -- the event at a place, and event k, of an entry
-  fromPlace : ℕ → ScanIndexEntry → Call Decoded
-  fromPlace at entry = part 3 at (eventIn h) (λ e next. withData lent h entry e next)
-
+  -- event k of an entry
   walked : ScanIndexEntry → Call Decoded
   walked entry = part 3 (h .events) (kthEvent h k) (λ e next. withData lent h entry e next)
 
   pub no-entry-from : (at : ℕ) {n : ℕ} {carries : List ℕ} → refused n carries ≡ readEntry (h .version) (h .index + k * entrySize (h .version)) s
       → refused n carries ≡ outcome (scanFrom lent k at h) s
-  unfolding scanFrom fromPlace
-  no-entry-from at = entry-short h k s (fromPlace at)
+  unfolding scanFrom
+  no-entry-from at = entry-short h k s (λ entry. eventAndData lent h entry at)
 
   pub no-entry : {n : ℕ} {carries : List ℕ} → refused n carries ≡ readEntry (h .version) (h .index + k * entrySize (h .version)) s
       → refused n carries ≡ outcome (scanIn lent k h) s
@@ -37,9 +34,9 @@ module _ (lent : Lengths) (h : TrayHeader) (k : ℕ) (s : List ℕ) where
   no-entry = entry-short h k s walked
 
   module _ {entry : ScanIndexEntry} (e : ok entry ≡ readEntry (h .version) (h .index + k * entrySize (h .version)) s) where
-    pub from-place : (at : ℕ) → behindEntry lent h entry at s ≡ outcome (scanFrom lent k at h) s
-    unfolding scanFrom fromPlace behindEntry
-    from-place at = entry-found h k s (fromPlace at) e
+    pub from-place : (at : ℕ) → scanOfEntry lent h entry at s ≡ outcome (scanFrom lent k at h) s
+    unfolding scanFrom scanOfEntry
+    from-place at = entry-found h k s (λ entry. eventAndData lent h entry at) e
 
     pub no-place : {n : ℕ} {carries : List ℕ} → refused n carries ≡ eventPlace (h .version) (h .primary) (h .dependent) (h .events) k s
         → refused n carries ≡ outcome (scanIn lent k h) s
@@ -47,8 +44,8 @@ module _ (lent : Lengths) (h : TrayHeader) (k : ℕ) (s : List ℕ) where
     no-place i = place-short h s (λ e next. withData lent h entry e next) k i ∙ entry-found h k s walked e
 
     pub at-place : {at : ℕ} → ok at ≡ eventPlace (h .version) (h .primary) (h .dependent) (h .events) k s
-        → behindEntry lent h entry at s ≡ outcome (scanIn lent k h) s
-    unfolding scanIn walked behindEntry
+        → scanOfEntry lent h entry at s ≡ outcome (scanIn lent k h) s
+    unfolding scanIn walked scanOfEntry eventAndData
     at-place i = place-found h s (λ e next. withData lent h entry e next) k i ∙ entry-found h k s walked e
 
 -- the header decides first

@@ -19,9 +19,9 @@ use Rattle.event_walk.specs.Walk.{eventEnd, eventPlace}
 use Rattle.event_walk.proofs.Steps.{place-none, place-more, none-behind}
 use Rattle.tray_header.specs.Header.{readTrayHeader}
 use Rattle.tray_header.specs.declared.TrayHeader.{TrayHeader}
-use Rattle.tray.specs.Scan.{eventIn, Lengths, scanIn, scanFrom, numbered, readScan, readScanFrom, placeOr, nextEvent, placeOf}
-use Rattle.tray.specs.Behind.{behindEntry}
-use Rattle.tray.proofs.Results.{event-short}
+use Rattle.tray_scan.specs.Scan.{eventIn, Lengths, scanOfEntry}
+use Rattle.tray.specs.Scan.{scanIn, scanFrom, numbered, readScan, readScanFrom, placeOr, nextEvent, placeOf}
+use Rattle.tray_scan.proofs.Results.{event-short}
 use Rattle.tray.proofs.Scans.{no-entry-from, no-entry, from-place, no-place, at-place, next-is, place-is}
 
 -- a walk that is refused ran out
@@ -62,7 +62,7 @@ module _ (s : List ℕ) (size : length s < 2 ^ 63) where
       where
         places : (entry : ScanIndexEntry) → ok entry ≡ readEntry (h .version) (h .index + k * entrySize (h .version)) (drop 32 s)
             → (o : Outcome ℕ) → eventPlace (h .version) (h .primary) (h .dependent) (h .events) k (drop 32 s) ≡ o
-            → behindEntry lent h entry (placeOr o) (drop 32 s) ≡ outcome (scanIn lent k h) (drop 32 s)
+            → scanOfEntry lent h entry (placeOr o) (drop 32 s) ≡ outcome (scanIn lent k h) (drop 32 s)
         places entry e (ok at) i = at-place lent h k (drop 32 s) e (sym i)
         places entry e (refused n carries) i =
             sym (event-short h entry (2 ^ 64 - 1) (drop 32 s) lent (sym (none-behind (h .version) (h .primary) (h .dependent) (drop 32 s) (2 ^ 64 - 1) (omega (arith, far)))))

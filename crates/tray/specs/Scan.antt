@@ -1,37 +1,21 @@
--- Scan k of a tray (document 01, "Tray"): header, entry k, event k, the data, and the pairs that they give.
+-- Scan k of a tray (document 01, "Tray"): header, entry k, event k, and the data.
 use Prim.Native.Nat.{ℕ, _*_, _-_, _^_}
-use mathlib.Core.Bool.{_&&_, cond}
+use mathlib.Core.Bool.{cond}
 use mathlib.Core.List.{List, []}
-use lib.Dec.{leb, ltb, eqb}
-use lib.Ieee.{Float}
-use lib.ListN.{length, drop}
+use lib.Dec.{ltb}
+use lib.ListN.{drop}
 use Rattle.refusal.specs.Outcome.{Outcome, ok, refused, andThen}
-use Rattle.refusal.specs.Number.{toldRefusal}
 use Rattle.lists.specs.Written.{over}
 use Rattle.parser.specs.Parser.{Parser, _>>_, skip, repeat}
 use Rattle.parser.specs.Call.{Call, answer, part, outcome}
-use Rattle.scan_format.specs.Format.{formatOf}
-use Rattle.scan_format.specs.declared.ScanDataFormat.{ScanDataFormat}
 use Rattle.scan_index.specs.Entry.{entry, entrySize}
 use Rattle.scan_index.specs.declared.ScanIndexEntry.{ScanIndexEntry}
-use Rattle.scan_event.specs.Event.{Event, decoded, lentOf, hasRoom}
+use Rattle.scan_event.specs.Event.{Event}
 use Rattle.scan_event.specs.Event as event
-use Rattle.scan_event.specs.declared.Lent.{Lent}
-use Rattle.event_walk.specs.Walk.{event as oneEvent, eventEnd, eventPlace}
-use Rattle.pairs.specs.Pairs.{Pair, masses, intensities}
+use Rattle.event_walk.specs.Walk.{eventEnd, eventPlace}
 use Rattle.tray_header.specs.Header.{readTrayHeader}
 use Rattle.tray_header.specs.declared.TrayHeader.{TrayHeader}
-use Rattle.tray_data.specs.Data.{Content, ofFinding, dataStart, scanData, pairs}
-use Rattle.tray.specs.declared.Scan.{Scan}
-use Rattle.tray.specs.declared.ScanAnswer.{ScanAnswer}
-use Rattle.tray.specs.declared.ScanAnswer.the-variants as answer
-
--- the header's format, and an event of its layout
-abbrev pub formatIn : TrayHeader → ScanDataFormat
-formatIn h = formatOf (h .version) (eqb (h .flat) 1)
-
-abbrev pub eventIn : TrayHeader → Parser Event
-eventIn h = oneEvent (h .version) (h .primary) (h .dependent)
+use Rattle.tray_scan.specs.Scan.{eventIn, Lengths, Decoded, withData, eventAndData}
 
 -- entry k of the index, and event k of the events: those before it are passed
 unfoldable pub entryIn : TrayHeader → ℕ → Parser ScanIndexEntry
@@ -39,36 +23,6 @@ entryIn h k = skip (k * entrySize (h .version)) >> entry (h .version)
 
 unfoldable pub kthEvent : TrayHeader → ℕ → Parser Event
 kthEvent h k = repeat k (eventIn h) >> eventIn h
-
--- how many elements of each slice are lent
-pub record Lengths : Type 0 where
-  pub event : Lent
-  pub mz : ℕ
-  pub intensity : ℕ
-
--- what is handed out: the answer's record, the event's lists, and the pairs
-pub record Decoded : Type 0 where
-  pub scan : Scan
-  pub event : event.Decoded
-  pub pairs : List Pair
-
--- the event and the pairs that its coefficients give, or refusal 8 where a lent slice is shorter than its count
-unfoldable pub handOut : Lengths → ScanIndexEntry → Event → ℕ → Content → Outcome Decoded
-handOut lent entry e next content =
-    let ps = pairs (e .coefficients) content in
-    cond (leb (length ps) (lent .mz) && leb (length ps) (lent .intensity) && hasRoom (lent .event) (length (e .preamble)) (length (e .reactions)) (length (e .coefficients)))
-    (ok (record {
-      scan = record { entry = entry; event = decoded e next .event; pairs = length ps };
-      event = decoded e next;
-      pairs = ps;
-    }))
-    (refused 8 [])
-
--- the data, part 4, of an entry and an event
-unfoldable pub withData : Lengths → TrayHeader → ScanIndexEntry → Event → ℕ → Call Decoded
-withData lent h entry e next =
-    let at = dataStart (h .«data») (entry .offset) in
-    part 4 at (scanData (formatIn h) at (entry .offset) (entry .«data_size»)) (λ found _. answer (ofFinding (handOut lent entry e next) found))
 
 -- scan k: the index is part 2, the events are part 3
 unfoldable pub scanIn : Lengths → ℕ → TrayHeader → Call Decoded
@@ -81,8 +35,7 @@ scanIn lent k h =
 unfoldable pub scanFrom : Lengths → ℕ → ℕ → TrayHeader → Call Decoded
 scanFrom lent k at h =
     part 2 (h .index) (entryIn h k) λ entry _.
-    part 3 at (eventIn h) λ e next.
-    withData lent h entry e next
+    eventAndData lent h entry at
 
 -- k is below the count, or refusal 7
 abbrev pub numbered : ℕ → TrayHeader → Call Decoded → Call Decoded
@@ -113,41 +66,3 @@ unfoldable pub placeOf : ℕ → List ℕ → ℕ
 placeOf k tray =
     placeOr (andThen (readTrayHeader tray) (λ h.
     cond (ltb k (h .scans)) (eventPlace (h .version) (h .primary) (h .dependent) (h .events) k (drop 32 tray)) (refused 7 [])))
-
-abbrev pub told : ScanAnswer → Outcome Scan
-told (answer.Scan s) = ok s
-told (answer.Refused r) = toldRefusal r
-
--- a call's answer, and the six slices as it leaves them
-pub record Result : Type 0 where
-  pub answer : Outcome Scan
-  pub preamble : List ℕ
-  pub precursors : List ℕ
-  pub energies : List ℕ
-  pub coefficients : List ℕ
-  pub mz : List Float
-  pub intensity : List Float
-
-abbrev pub result : ScanAnswer → List ℕ → List ℕ → List ℕ → List ℕ → List Float → List Float → Result
-result r p q e c m i = record { answer = told r; preamble = p; precursors = q; energies = e; coefficients = c; mz = m; intensity = i }
-
--- what follows from a call's outcome: a scan is written over the slices' fronts, a refused call leaves them
-abbrev pub leaves : Outcome Decoded → List ℕ → List ℕ → List ℕ → List ℕ → List Float → List Float → Result
-leaves (ok d) p q e c m i =
-    record {
-      answer = ok (d .scan);
-      preamble = over (d .event .preamble) p;
-      precursors = over (d .event .precursors) q;
-      energies = over (d .event .energies) e;
-      coefficients = over (d .event .coefficients) c;
-      mz = over (masses (d .pairs)) m;
-      intensity = over (intensities (d .pairs)) i;
-    }
-leaves (refused number carries) p q e c m i =
-    record { answer = refused number carries; preamble = p; precursors = q; energies = e; coefficients = c; mz = m; intensity = i }
-
-abbrev pub lengthsOf : List ℕ → List ℕ → List ℕ → List ℕ → List Float → List Float → Lengths
-lengthsOf p q e c m i = record { event = lentOf p q e c; mz = length m; intensity = length i }
-
-abbrev pub resultOf : (Lengths → Outcome Decoded) → List ℕ → List ℕ → List ℕ → List ℕ → List Float → List Float → Result
-resultOf call p q e c m i = leaves (call (lengthsOf p q e c m i)) p q e c m i

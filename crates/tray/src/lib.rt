@@ -1,49 +1,23 @@
-// Scan k of a tray: entry k of its index, event k, and the pairs that the data give by that event's coefficients.
-// All bytes are judged before anything is written.
+// Scan k of a tray: entry k of its index and event k, and what `tray_scan` makes of them.
 ghost use mathlib.Core.Path.{_≡_};
 ghost use Prim.Native.Nat.{_+_, _*_, _<_};
 ghost use Rattle.parser.specs.Call.{outcome};
 ghost use Rattle.scan_index.specs.Entry.{entrySize, readEntry};
 ghost use Rattle.scan_index.specs.Entry.{told as toldEntry};
 ghost use Rattle.event_walk.specs.Walk.{told as toldPlace};
-ghost use Rattle.tray.specs.Scan.{formatIn, scanFrom, readScan, readScanFrom, placeOr, nextEvent, placeOf, result, resultOf};
-ghost use Rattle.tray.specs.Behind.{behindEntry, Judged};
+ghost use Rattle.tray_scan.specs.Scan.{result, resultOf};
+ghost use Rattle.tray.specs.Scan.{scanFrom, readScan, readScanFrom, placeOr, nextEvent, placeOf};
 use event_walk::EventPlace;
 use event_walk::event_end;
 use event_walk::event_place;
 use refusal::Refusal;
-use scan_event::EventAnswer;
-use scan_event::ScanEvent;
-use scan_format::ScanDataFormat;
 use scan_index::EntryAnswer;
 use scan_index::ScanIndexEntry;
-use tray_data::DataAnswer;
-use tray_data::ScanData;
-use tray_data::find_data;
-use tray_data::pair_count;
-use tray_data::write_data_pairs;
 use tray_header::TrayHeader;
 use tray_header::TrayHeaderAnswer;
 use tray_header::read_tray_header;
-
-pub struct Scan {
-    pub entry: ScanIndexEntry,
-    pub event: ScanEvent,
-    // How many pairs were written.
-    pub pairs: u64,
-}
-
-pub enum ScanAnswer {
-    Scan(Scan),
-    Refused(Refusal),
-}
-
-// The format of a tray's run.
-fn format_of(h: TrayHeader) -> ScanDataFormat
-    ensures { λ r. ⌜ r ≡ formatIn h ⌝ }
-{
-    ScanDataFormat::detect(h.version, h.flat == 1)
-}
+use tray_scan::ScanAnswer;
+use tray_scan::scan_of_entry;
 
 // Entry k of the index.
 fn entry_of(run: &[u8], h: TrayHeader, k: u32) -> EntryAnswer
@@ -52,100 +26,6 @@ fn entry_of(run: &[u8], h: TrayHeader, k: u32) -> EntryAnswer
 {
     let size = ScanIndexEntry::min_size_for_version(h.version);
     ScanIndexEntry::read(run, h.index as u64 + k as u64 * size, h.version)
-}
-
-// A scan whose event and data are there. The event's room is tested where it is read.
-fn hand_out(
-    run: &[u8],
-    h: TrayHeader,
-    entry: ScanIndexEntry,
-    at: u64,
-    found: ScanData,
-    preamble: &mut [u8],
-    precursors: &mut [u64],
-    energies: &mut [u64],
-    coefficients: &mut [u64],
-    mz: &mut [f64],
-    intensity: &mut [f64],
-) -> ScanAnswer
-    requires { ⌜ Judged h entry at (now run) found ⌝ }
-    ensures { λ r. ⌜ result r (now (preamble .exit)) (now (precursors .exit)) (now (energies .exit)) (now (coefficients .exit)) (now (mz .exit)) (now (intensity .exit))
-        ≡ resultOf (λ lent. behindEntry lent h entry at (now (run .entry))) (now (preamble .entry)) (now (precursors .entry)) (now (energies .entry)) (now (coefficients .entry)) (now (mz .entry)) (now (intensity .entry)) ⌝ }
-{
-    let pairs = pair_count(found);
-    if pairs > mz.len() as u64 {
-        return ScanAnswer::Refused(Refusal::NoRoom);
-    }
-    if pairs > intensity.len() as u64 {
-        return ScanAnswer::Refused(Refusal::NoRoom);
-    }
-    match events::read(
-        run,
-        at,
-        h.version,
-        h.primary,
-        h.dependent,
-        preamble,
-        precursors,
-        energies,
-        coefficients,
-    ) {
-        EventAnswer::Refused(r) => ScanAnswer::Refused(r),
-        EventAnswer::Event(event) => {
-            let n = event.coefficients as usize;
-            write_data_pairs(run, found, &coefficients[..n], mz, intensity);
-            ScanAnswer::Scan(Scan {
-                entry,
-                event,
-                pairs,
-            })
-        }
-    }
-}
-
-// The scan of an entry, whose event stands at a place.
-fn behind_entry(
-    run: &[u8],
-    h: TrayHeader,
-    entry: ScanIndexEntry,
-    at: u64,
-    preamble: &mut [u8],
-    precursors: &mut [u64],
-    energies: &mut [u64],
-    coefficients: &mut [u64],
-    mz: &mut [f64],
-    intensity: &mut [f64],
-) -> ScanAnswer
-    ensures { λ r. ⌜ result r (now (preamble .exit)) (now (precursors .exit)) (now (energies .exit)) (now (coefficients .exit)) (now (mz .exit)) (now (intensity .exit))
-        ≡ resultOf (λ lent. behindEntry lent h entry at (now (run .entry))) (now (preamble .entry)) (now (precursors .entry)) (now (energies .entry)) (now (coefficients .entry)) (now (mz .entry)) (now (intensity .entry)) ⌝ }
-{
-    match event_end(run, at, h.version, h.primary, h.dependent) {
-        EventPlace::Refused(r) => ScanAnswer::Refused(r),
-        EventPlace::At(_) => {
-            match find_data(
-                run,
-                format_of(h),
-                h.data as u64,
-                entry.offset,
-                entry.data_size,
-            ) {
-                DataAnswer::Refused(r) => ScanAnswer::Refused(r),
-                DataAnswer::Data(found) => hand_out(
-                    run,
-                    h,
-                    entry,
-                    at,
-                    found,
-                    preamble,
-                    precursors,
-                    energies,
-                    coefficients,
-                    mz,
-                    intensity,
-                ),
-            }
-        }
-    }
 }
 
 // Scan k of a run, whose event stands at a place.
@@ -167,7 +47,7 @@ fn scan_from(
 {
     match entry_of(run, h, k) {
         EntryAnswer::Refused(r) => ScanAnswer::Refused(r),
-        EntryAnswer::Entry(entry) => behind_entry(
+        EntryAnswer::Entry(entry) => scan_of_entry(
             run,
             h,
             entry,

@@ -23,7 +23,8 @@ use Rattle.ten_thousandths.specs.TenThousandths as tenths
 use Rattle.lines.specs.Lines.{digit, decimalBy, decimal, hexadecimal, trayLine, scanLines}
 use Rattle.tray_header.specs.Header.{header, judged, readTrayHeader}
 use Rattle.tray_data.specs.Data.{scanData, pairs}
-use Rattle.tray.specs.Scan.{entryIn, kthEvent, handOut, withData, scanIn, readScan}
+use Rattle.tray_scan.specs.Scan.{handOut, withData}
+use Rattle.tray.specs.Scan.{entryIn, kthEvent, scanIn, readScan}
 use Rattle.tray_lines.specs.Listing.{scansText, listing}
 
 -- version 8, flat, no bodies, one scan; index 0, events 72, data 149

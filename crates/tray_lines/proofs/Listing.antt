@@ -8,7 +8,8 @@ use lib.ListN.{length, length-map}
 use Rattle.refusal.specs.Outcome.{ok}
 use Rattle.pairs.specs.Pairs.{Pair, masses, intensities}
 use Rattle.lines.proofs.Room.{scan-room}
-use Rattle.tray.specs.Scan.{Decoded, readScan, readScanFrom, placeOf}
+use Rattle.tray_scan.specs.Scan.{Decoded}
+use Rattle.tray.specs.Scan.{readScan, readScanFrom, placeOf}
 use Rattle.tray.proofs.Walk.{same-answers}
 use Rattle.tray.proofs.Consistent.{consistent}
 use Rattle.tray_lines.specs.Listing.{lent, scanText}

@@ -16,10 +16,11 @@ use Rattle.pairs.specs.Pairs.{Pair, masses, intensities}
 use Rattle.lines.specs.Lines.{refusalLine, trayLine, scanLines}
 use Rattle.tray_header.specs.Header.{readTrayHeader}
 use Rattle.tray_header.specs.declared.TrayHeader.{TrayHeader}
-use Rattle.tray.specs.Scan.{Lengths, Decoded, readScanFrom, Result, result, leaves, lengthsOf, resultOf}
-use Rattle.tray.specs.declared.Scan.{Scan}
-use Rattle.tray.specs.declared.ScanAnswer.{ScanAnswer}
-use Rattle.tray.specs.declared.ScanAnswer.the-variants as answer
+use Rattle.tray_scan.specs.Scan.{Lengths, Decoded, Result, result, leaves, lengthsOf, resultOf}
+use Rattle.tray.specs.Scan.{readScanFrom}
+use Rattle.tray_scan.specs.declared.Scan.{Scan}
+use Rattle.tray_scan.specs.declared.ScanAnswer.{ScanAnswer}
+use Rattle.tray_scan.specs.declared.ScanAnswer.the-variants as answer
 use Rattle.tray.proofs.Consistent.{consistent}
 use Rattle.tray_lines.specs.Listing.{lent, refusedLine, scanText, headerText}
 

@@ -10,7 +10,8 @@ use Rattle.pairs.specs.Pairs.{masses, intensities}
 use Rattle.lines.specs.Lines.{decimal, line, trayLine, scanLines}
 use Rattle.tray_header.specs.Header.{readTrayHeader}
 use Rattle.tray_header.specs.declared.TrayHeader.{TrayHeader}
-use Rattle.tray.specs.Scan.{Lengths, Decoded, readScan}
+use Rattle.tray_scan.specs.Scan.{Lengths, Decoded}
+use Rattle.tray.specs.Scan.{readScan}
 
 -- what the program lends: no preamble is longer than 136 bytes
 abbrev pub lent : Lengths

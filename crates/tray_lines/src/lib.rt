@@ -9,10 +9,10 @@ ghost use Rattle.tray_lines.specs.Listing.{lent, scanText, headerText, s
 use lines::write_refusal_line;
 use lines::write_scan_lines;
 use lines::write_tray_line;
-use tray::ScanAnswer;
 use tray::read_scan_from;
 use tray_header::TrayHeaderAnswer;
 use tray_header::read_tray_header;
+use tray_scan::ScanAnswer;
 
 // The header's line, at the front of a lent slice, as far as it goes; answers how many bytes were written.
 pub fn list_header(tray: &[u8], out: &mut [u8]) -> u64

@@ -3,7 +3,8 @@
 use mathlib.Core.Path.{ap, _∙_}
 use native.Mathlib.Omega.{arith}
 use denote.Ref.{now}
-use Rattle.tray.specs.Scan.{readScanFrom, leaves, lengthsOf}
+use Rattle.tray_scan.specs.Scan.{leaves, lengthsOf}
+use Rattle.tray.specs.Scan.{readScanFrom}
 use Rattle.tray.proofs.Walk.{same-answers}
 use borrow.Author.Needs.{needs}
 use Rattle.tray.proofs.read_scan.Statement.{statement}

@@ -7,8 +7,9 @@ use Rattle.parser.specs.Call.{outcome}
 use Rattle.refusal.specs.declared.Refusal.the-variants.{NoSuchScan}
 use Rattle.tray_header.specs.Header.{told}
 use Rattle.tray_header.proofs.Found.{whole}
-use Rattle.tray.specs.Scan.{scanFrom, readScanFrom, leaves, lengthsOf}
-use Rattle.tray.proofs.Results.{refused-result}
+use Rattle.tray_scan.specs.Scan.{leaves, lengthsOf}
+use Rattle.tray.specs.Scan.{scanFrom, readScanFrom}
+use Rattle.tray_scan.proofs.Results.{refused-result}
 use Rattle.tray.proofs.Scans.{no-header, no-scan, in-run, run-is}
 use borrow.Author.Needs.{needs}
 use Rattle.tray.proofs.read_scan_from.Statement.{statement}

@@ -4,8 +4,9 @@ use mathlib.Core.Path.{sym, ap, _∙_}
 use denote.Ref.{now}
 use Rattle.parser.specs.Call.{outcome}
 use Rattle.scan_index.specs.Entry.{told}
-use Rattle.tray.specs.Scan.{scanFrom, leaves, lengthsOf}
-use Rattle.tray.proofs.Results.{refused-result}
+use Rattle.tray_scan.specs.Scan.{leaves, lengthsOf}
+use Rattle.tray.specs.Scan.{scanFrom}
+use Rattle.tray_scan.proofs.Results.{refused-result}
 use Rattle.tray.proofs.Scans.{no-entry-from, from-place}
 use borrow.Author.Needs.{needs}
 use Rattle.tray.proofs.scan_from.Statement.{statement}
@@ -20,8 +21,8 @@ enum-known-r c = search needs
 enum-known-entry : tie.Need-enum-known-entry
 enum-known-entry c = search needs
 
-behind-entry-requires : tie.Need-behind-entry-requires
-behind-entry-requires c κs = search needs
+scan-of-entry-requires : tie.Need-scan-of-entry-requires
+scan-of-entry-requires c κs = search needs
 
 returns : tie.Need-returns
 returns c =
@@ -50,7 +51,7 @@ same-length-6 c = search needs
 returns-2 : tie.Need-returns-2
 returns-2 c =
     let a = c .before .before .before .before .before .before .before .before .before .before .before .before .before .before .before .before .before .before .before .before .before .before .before .before .before .before .before .before .before .before .args in
-    c .before .before .before .before .before .before .before .before .before .before .before .before .behind-entry .ensures
+    c .before .before .before .before .before .before .before .before .before .before .before .before .scan-of-entry .ensures
     ∙ ap (λ o. leaves o (now (a .preamble)) (now (a .precursors)) (now (a .energies)) (now (a .coefficients)) (now (a .mz)) (now (a .intensity))) (from-place (lengthsOf (now (a .preamble)) (now (a .precursors)) (now (a .energies)) (now (a .coefficients)) (now (a .mz)) (now (a .intensity))) (a .h) (a .k) (now (a .run)) (sym (ap told (c .before .before .before .before .before .before .before .before .before .before .before .before .before .before .before .before .before .before .before .before .entry .given .1)) ∙ c .before .before .before .before .before .before .before .before .before .before .before .before .before .before .before .before .before .before .before .before .before .before .entry-of .ensures) (a .at))
 
 pub scan-from-spec : {M : Type 1} → statement M
@@ -60,7 +61,7 @@ scan-from-spec =
     entry-of-requires
     enum-known-r
     enum-known-entry
-    behind-entry-requires
+    scan-of-entry-requires
     returns
     same-length
     same-length-2

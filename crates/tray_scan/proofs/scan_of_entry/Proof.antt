@@ -1,15 +1,15 @@
--- `tray::behind_entry` meets its contract: the event, then the data, and then the room.
+-- `tray_scan::scan_of_entry` meets its contract: the event, then the data, and then the room.
 -- Assumes nothing.
 use mathlib.Core.Path.{sym, ap, _∙_}
 use denote.Ref.{now}
 use Rattle.event_walk.specs.Walk.{told}
 use Rattle.tray_data.specs.Data.{findData}
 use Rattle.tray_data.specs.Data.{told as toldData}
-use Rattle.tray.specs.Behind.{behindEntry}
-use Rattle.tray.proofs.Results.{refused-result, event-short, data-short}
+use Rattle.tray_scan.specs.Scan.{scanOfEntry}
+use Rattle.tray_scan.proofs.Results.{refused-result, event-short, data-short}
 use borrow.Author.Needs.{needs}
-use Rattle.tray.proofs.behind_entry.Statement.{statement}
-use Rattle.tray.proofs.behind_entry.Tie as tie
+use Rattle.tray_scan.proofs.scan_of_entry.Statement.{statement}
+use Rattle.tray_scan.proofs.scan_of_entry.Tie as tie
 
 event-end-requires : tie.Need-event-end-requires
 event-end-requires c κs = search needs
@@ -47,13 +47,13 @@ hand-out-requires c κs =
 returns : tie.Need-returns
 returns c =
     let a = c .before .before .before .before .before .before .before .before .before .before .before .args in
-    refused-result (λ lent. behindEntry lent (a .h) (a .entry) (a .at) (now (a .run))) (now (a .preamble)) (now (a .precursors)) (now (a .energies)) (now (a .coefficients)) (now (a .mz)) (now (a .intensity)) (c .before .r .given .0 .0)
+    refused-result (λ lent. scanOfEntry lent (a .h) (a .entry) (a .at) (now (a .run))) (now (a .preamble)) (now (a .precursors)) (now (a .energies)) (now (a .coefficients)) (now (a .mz)) (now (a .intensity)) (c .before .r .given .0 .0)
     (event-short (a .h) (a .entry) (a .at) (now (a .run)) _ (sym (ap told (c .before .r .given .1)) ∙ c .before .before .before .event-end .ensures))
 
 returns-2 : tie.Need-returns-2
 returns-2 c =
     let a = c .before .before .before .before .before .before .before .before .before .before .before .before .before .before .before .before .args in
-    refused-result (λ lent. behindEntry lent (a .h) (a .entry) (a .at) (now (a .run))) (now (a .preamble)) (now (a .precursors)) (now (a .energies)) (now (a .coefficients)) (now (a .mz)) (now (a .intensity)) (c .before .r2 .given .0 .0)
+    refused-result (λ lent. scanOfEntry lent (a .h) (a .entry) (a .at) (now (a .run))) (now (a .preamble)) (now (a .precursors)) (now (a .energies)) (now (a .coefficients)) (now (a .mz)) (now (a .intensity)) (c .before .r2 .given .0 .0)
     (data-short (a .h) (a .entry) (a .at) (now (a .run)) _ (sym (ap told (c .before .before .before .before .before .before .enum-told .given .1)) ∙ c .before .before .before .before .before .before .before .before .event-end .ensures)
     (sym (ap toldData (c .before .r2 .given .1)) ∙ c .before .before .before .find-data .ensures ∙ ap (λ f. findData f (a .h .«data») (a .entry .offset) (a .entry .«data_size») (now (a .run))) (c .before .before .before .before .before .format-of .ensures)))
 
@@ -78,8 +78,8 @@ same-length-6 c = search needs
 returns-3 : tie.Need-returns-3
 returns-3 c = c .before .before .before .before .before .before .before .before .before .before .before .before .hand-out .ensures
 
-pub behind-entry-spec : {M : Type 1} → statement M
-behind-entry-spec =
+pub scan-of-entry-spec : {M : Type 1} → statement M
+scan-of-entry-spec =
     tie.close
     (tie.spec
     event-end-requires

@@ -2,9 +2,9 @@
 -- Assumes nothing.
 use mathlib.Core.Path.{_≡_, ap}
 use Rattle.refusal.proofs.Told.{refusal-one}
-use Rattle.tray.specs.Scan.{told}
-use Rattle.tray.specs.declared.ScanAnswer.{ScanAnswer}
-use Rattle.tray.specs.declared.ScanAnswer.the-variants as answer
+use Rattle.tray_scan.specs.Scan.{told}
+use Rattle.tray_scan.specs.declared.ScanAnswer.{ScanAnswer}
+use Rattle.tray_scan.specs.declared.ScanAnswer.the-variants as answer
 
 pub scan-told-one : (a b : ScanAnswer) → told a ≡ told b → a ≡ b
 scan-told-one (answer.Scan x) (answer.Scan y) h = cc

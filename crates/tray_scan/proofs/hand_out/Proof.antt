@@ -1,13 +1,13 @@
--- `tray::hand_out` meets its contract: the room for the pairs, the event, and then the pairs.
+-- `tray_scan::hand_out` meets its contract: the room for the pairs, the event, and then the pairs.
 -- Assumes nothing.
 use mathlib.Core.Path.{sym}
 use native.Mathlib.Omega.{arith}
 use lib.ListN.{length-take}
 use denote.Ref.{now}
-use Rattle.tray.proofs.Results.{no-masses, no-intensities, no-event-room, coefficients-within, scan-result}
+use Rattle.tray_scan.proofs.Results.{no-masses, no-intensities, no-event-room, coefficients-within, scan-result}
 use borrow.Author.Needs.{needs}
-use Rattle.tray.proofs.hand_out.Statement.{statement}
-use Rattle.tray.proofs.hand_out.Tie as tie
+use Rattle.tray_scan.proofs.hand_out.Statement.{statement}
+use Rattle.tray_scan.proofs.hand_out.Tie as tie
 
 pair-count-requires : tie.Need-pair-count-requires
 pair-count-requires c κs = search needs
