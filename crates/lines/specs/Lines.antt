@@ -61,12 +61,18 @@ unfoldable pub trayLine : ℕ → ℕ → List ℕ
 trayLine version scans = line (ascii "T" ∷ decimal version ∷ decimal scans ∷ [])
 
 -- the part that a refusal 1 carries, and 0 of others
-abbrev pub partOf : Refusal → ℕ
-partOf refusal = cond (eqb (numberOf refusal) 1) (getD (carried refusal) 0 0) 0
+abbrev pub partIn : ℕ → List ℕ → ℕ
+partIn refusal carries = cond (eqb refusal 1) (getD carries 0 0) 0
 
--- `X number refusal part`
+abbrev pub partOf : Refusal → ℕ
+partOf refusal = partIn (numberOf refusal) (carried refusal)
+
+-- `X number refusal part`, by the refusal's number and what it carries
+abbrev pub refusedLine : ℕ → ℕ → List ℕ → List ℕ
+refusedLine number refusal carries = line (ascii "X" ∷ decimal number ∷ decimal refusal ∷ decimal (partIn refusal carries) ∷ [])
+
 unfoldable pub refusalLine : ℕ → Refusal → List ℕ
-refusalLine number refusal = line (ascii "X" ∷ decimal number ∷ decimal (numberOf refusal) ∷ decimal (partOf refusal) ∷ [])
+refusalLine number refusal = refusedLine number (numberOf refusal) (carried refusal)
 
 -- a line for each pair, as far as both lists go
 abbrev pub pairLines : List Float → List Float → List ℕ

@@ -13,7 +13,7 @@ use Rattle.refusal.specs.declared.Refusal.{Refusal}
 use Rattle.lists.specs.Written.{over, fitting}
 use Rattle.lists.proofs.Laws.{length-over}
 use Rattle.pairs.specs.Pairs.{Pair, masses, intensities}
-use Rattle.lines.specs.Lines.{refusalLine, trayLine, scanLines}
+use Rattle.lines.specs.Lines.{refusedLine, refusalLine, trayLine, scanLines}
 use Rattle.tray_header.specs.Header.{readTrayHeader}
 use Rattle.tray_header.specs.declared.TrayHeader.{TrayHeader}
 use Rattle.tray_scan.specs.Scan.{Lengths, Decoded, Result, result, leaves, lengthsOf, resultOf}
@@ -22,7 +22,7 @@ use Rattle.tray_scan.specs.declared.Scan.{Scan}
 use Rattle.tray_scan.specs.declared.ScanAnswer.{ScanAnswer}
 use Rattle.tray_scan.specs.declared.ScanAnswer.the-variants as answer
 use Rattle.tray.proofs.Consistent.{consistent}
-use Rattle.tray_lines.specs.Listing.{lent, refusedLine, scanText, headerText}
+use Rattle.tray_lines.specs.Listing.{lent, scanText, headerText}
 
 -- a refusal's line
 pub refusal-is : (k : ℕ) (r : Refusal) → refusalLine k r ≡ refusedLine k (number r) (carried r)

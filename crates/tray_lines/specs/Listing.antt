@@ -2,12 +2,12 @@
 use Prim.Native.Nat.{ℕ, zero, suc}
 use mathlib.Core.Bool.{cond}
 use mathlib.Core.List.{List, [], _∷_, _++_}
-use lib.Dec.{ltb, eqb}
-use lib.ListN.{length, getD}
+use lib.Dec.{ltb}
+use lib.ListN.{length}
 use Rattle.refusal.specs.Outcome.{Outcome, ok, refused}
 use Rattle.text.specs.Text.{ascii}
 use Rattle.pairs.specs.Pairs.{masses, intensities}
-use Rattle.lines.specs.Lines.{decimal, line, trayLine, scanLines}
+use Rattle.lines.specs.Lines.{line, refusedLine, trayLine, scanLines}
 use Rattle.tray_header.specs.Header.{readTrayHeader}
 use Rattle.tray_header.specs.declared.TrayHeader.{TrayHeader}
 use Rattle.tray_scan.specs.Scan.{Lengths, Decoded}
@@ -16,11 +16,6 @@ use Rattle.tray.specs.Scan.{readScan}
 -- what the program lends: no preamble is longer than 136 bytes
 abbrev pub lent : Lengths
 lent = record { event = record { preamble = 136; precursors = 64; energies = 64; coefficients = 64 }; mz = 2048; intensity = 2048 }
-
--- `X number refusal part`, the part being 0 unless the refusal is 1
-abbrev pub refusedLine : ℕ → ℕ → List ℕ → List ℕ
-refusedLine number refusal carries =
-    line (ascii "X" ∷ decimal number ∷ decimal refusal ∷ decimal (cond (eqb refusal 1) (getD carries 0 0) 0) ∷ [])
 
 -- scan k, or its refusal
 abbrev pub scanText : ℕ → Outcome Decoded → List ℕ
