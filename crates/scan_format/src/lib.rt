@@ -1,8 +1,8 @@
 // Which layout a file's scan data has (scan_format.rs).
 ghost use mathlib.Core.Path.{_≡_};
-ghost use Rattle.text.specs.Text.{told, textOutcome, textAfter};
+ghost use Rattle.lists.specs.Left.{LeftList};
 ghost use Rattle.scan_format.specs.Format.{formatOf, flat, displayName};
-use text::TextAnswer;
+use refusal::CountAnswer;
 
 pub enum ScanDataFormat {
     PacketHeader,
@@ -34,9 +34,8 @@ impl ScanDataFormat {
         }
     }
 
-    pub fn display_name(self, out: &mut [u8]) -> TextAnswer
-        ensures { λ r. ⌜ told r ≡ textOutcome (displayName self) (now (out .entry)) ⌝ }
-        ensures { λ _. ⌜ now (out .exit) ≡ textAfter (displayName self) (now (out .entry)) ⌝ }
+    pub fn display_name(self, out: &mut [u8]) -> CountAnswer
+        ensures { λ r. ⌜ LeftList (displayName self) (now (out .entry)) r (now (out .exit)) ⌝ }
     {
         match self {
             ScanDataFormat::PacketHeader => text::write(b"PacketHeader", out),

@@ -1,0 +1,96 @@
+-- What a call leaves, by its outcome, and the room test.
+-- Assumes nothing.
+use mathlib.Core.Path.{_≡_, refl, sym, _∙_}
+use Prim.Native.Nat.{ℕ, _≤_, _<_}
+use native.Mathlib.Omega.{arith}
+use mathlib.Core.Bool.{Bool, true, false}
+use mathlib.Core.List.{List, [], _∷_, map}
+use lib.Dec.{leb}
+use lib.ListN.{length, length-map}
+use borrow.Author.Tests.{leb-true, le-leb, lt-leb}
+use Rattle.refusal.specs.Outcome.{Outcome, ok, refused}
+use Rattle.refusal.proofs.Outcomes.{refused-of}
+use Rattle.refusal.specs.declared.CountAnswer.the-variants.{Count, Refused}
+use Rattle.refusal.specs.declared.Refusal.the-variants.{NoRoom}
+use Rattle.lists.specs.Written.{over, fitting}
+use Rattle.lists.specs.Left.{after, Left, fits, LeftList, firsts, seconds, handOutPairs, LeftPairs}
+use Rattle.lists.proofs.Cases.{and-true}
+use Rattle.lists.proofs.Laws.{fitting-all}
+
+-- what a call wrote whose answer is known
+pub record Wrote {A B L : Type 0} (answer : A → B) (write : A → L → L) (o : Outcome A) (b : B) (xs ys : L) : Type 0 where
+  pub value : A
+  pub is : ok value ≡ o
+  pub answered : b ≡ answer value
+  pub written : ys ≡ write value xs
+
+wrote-by : {A B L : Type 0} (answer : A → B) (write : A → L → L) (o : Outcome A) {b : B} {xs ys : L} → Left answer write o xs (ok b) ys → Wrote answer write o b xs ys
+unfolding after
+wrote-by answer write (ok a) l = let e = l .answered in record { value = a; is = refl; answered = cc; written = l .stands }
+wrote-by answer write (refused n carries) l = let e = l .answered in let c : _≡_ {A = ℕ} 0 1 = cc in absurd (omega arith)
+
+-- ---- the ways out of a call
+module _ {A B L : Type 0} {answer : A → B} {write : A → L → L} {o : Outcome A} {xs : L} where
+  -- it was refused
+  pub left-refused : {n : ℕ} {carries : List ℕ} → refused n carries ≡ o → Left answer write o xs (refused n carries) xs
+  unfolding after
+  left-refused h = record { answered = rw (← h); stands = rw (← h) }
+
+  -- its value was written
+  pub left-written : {a : A} {b : B} {ys : L} → ok a ≡ o → b ≡ answer a → ys ≡ write a xs → Left answer write o xs (ok b) ys
+  unfolding after
+  left-written h p q = record { answered = rw (← h, p); stands = rw (← h, q) }
+
+  -- it hands another's answer on
+  pub left-same : {o′ : Outcome A} {told : Outcome B} {ys : L} → o ≡ o′ → Left answer write o xs told ys → Left answer write o′ xs told ys
+  left-same h l = rw (← h) l
+
+  -- and back
+  pub wrote : {b : B} {ys : L} → Left answer write o xs (ok b) ys → Wrote answer write o b xs ys
+  wrote l = wrote-by answer write o l
+
+  pub stayed : {n : ℕ} {carries : List ℕ} {ys : L} → Left answer write o xs (refused n carries) ys → (refused n carries ≡ o) × (ys ≡ xs)
+  unfolding after
+  stayed {n} {carries} l = let e = refused-of answer o (l .answered) in (e, l .stands ∙ rw (← e))
+
+-- ---- the room test: each count is within its slice
+abbrev pub Within : List (ℕ × ℕ) → Type 0
+Within [] = Unit {0}
+Within (p ∷ ps) = (p .0 ≤ p .1) × Within ps
+
+pub fits-true : (ps : List (ℕ × ℕ)) → fits ps ≡ true → Within ps
+fits-true [] h = tt
+fits-true (p ∷ ps) h =
+    let both = and-true (leb (p .0) (p .1)) (fits ps) h in
+    (leb-true _ _ (both .0), fits-true ps (both .1))
+
+-- ---- a list in one slice
+module _ {A : Type 0} (vs xs : List A) where
+  pub list-no-room : length xs < length vs → LeftList vs xs (Refused NoRoom) xs
+  unfolding fitting
+  list-no-room h = let e = lt-leb (length vs) (length xs) h in record { answered = rw e; stands = rw e }
+
+  pub list-written : {n : ℕ} {ys : List A} → length vs ≡ n → length vs ≤ length xs → ys ≡ over vs xs → LeftList vs xs (Count n) ys
+  list-written e h w = record { answered = rw (le-leb (length vs) (length xs) h, e); stands = w ∙ sym (fitting-all vs xs h) }
+
+-- ---- pairs in two slices
+module _ {A B : Type 0} where
+  -- a column that a writer left which tests its slice's end itself
+  column : {E : Type 0} (f : A × B → E) (ps : List (A × B)) (xs : List E) → length ps ≤ length xs → fitting (map f ps) xs ≡ over (map f ps) xs
+  column f ps xs h = fitting-all (map f ps) xs (rw (length-map ps f) h)
+
+  module _ (ps : List (A × B)) {n : ℕ} (count : length ps ≡ n) (xs : List A) (ys : List B) where
+    abbrev roomFor : Bool
+    roomFor = fits ((n, length xs) ∷ (n, length ys) ∷ [])
+
+    pub pairs-no-room : roomFor ≡ false → LeftPairs (λ a b. handOutPairs a b ps) xs ys (Refused NoRoom) xs ys
+    unfolding handOutPairs
+    pairs-no-room h = left-refused (rw (count, h))
+
+    pub pairs-written : roomFor ≡ true → {xs′ : List A} {ys′ : List B} → xs′ ≡ fitting (firsts ps) xs → ys′ ≡ fitting (seconds ps) ys
+        → LeftPairs (λ a b. handOutPairs a b ps) xs ys (Count n) xs′ ys′
+    unfolding handOutPairs
+    pairs-written h e f =
+        let w = fits-true ((n, length xs) ∷ (n, length ys) ∷ []) h in
+        left-written {a = ps} (rw (count, h)) (sym count)
+        (rw (e ∙ column (λ p. p .0) ps xs (omega arith), f ∙ column (λ p. p .1) ps ys (omega arith)))
