@@ -81,7 +81,7 @@ fn scan_lines(number: u32, scan: &Scan) -> String {
 }
 
 /// The exact value in ten-thousandths, nearest, half up; none for NaN, negative and above 50,000.
-fn ten_thousandths(mz: f64) -> Option<u128> {
+pub fn ten_thousandths(mz: f64) -> Option<u128> {
     // -0 is neither below 0 nor above.
     if mz.is_nan() || mz < 0.0 || mz > 50_000.0 {
         return None;

@@ -19,6 +19,7 @@ mod error;
 mod listing;
 mod packets;
 mod pairs;
+mod places;
 mod records;
 mod request;
 mod searches;
@@ -124,6 +125,8 @@ fn answer(line: &[u8], out: &mut Answers) -> Option<()> {
         b"narrow" => packets::narrow,
         b"noise" => packets::noise,
         b"labels" => packets::labels,
+        b"packet_noise" => packets::packet_noise,
+        b"packet_labels" => packets::packet_labels,
         b"flat" => records::flat,
         b"srm" => records::srm,
         b"srm_windows" => records::srm_windows,
@@ -134,6 +137,16 @@ fn answer(line: &[u8], out: &mut Answers) -> Option<()> {
         b"channels" => searches::channels,
         b"scan" => tray::scan,
         b"scan_from" => tray::scan_from,
+        b"event_end" => places::event_end,
+        b"event_place" => places::event_place,
+        b"event_of" => places::event_of,
+        b"next_event" => places::next_event,
+        b"find_flat" => places::find_flat,
+        b"find_srm" => places::find_srm,
+        b"find_places" => places::find_places,
+        b"find_data" => places::find_data,
+        b"ten_thousandths" => ten_thousandths,
+        b"counted_list" => counted_list,
         _ => return None,
     };
     request(&mut fields, out)
@@ -166,6 +179,34 @@ fn word(fields: &mut Fields, out: &mut Answers) -> Option<()> {
         _ => return None,
     };
     out.number_or_none(number);
+    Some(())
+}
+
+/// A count of four bytes, and whether the bytes left hold so many of a size: the reader's own refusal 1 names no part.
+fn counted_list(fields: &mut Fields, out: &mut Answers) -> Option<()> {
+    let size = fields.u64()?;
+    let place = fields.u64()?;
+    let bytes = fields.bytes()?;
+    fields.end()?;
+    let mut reader = reader_at(&bytes, place);
+    let count = reader.read_u32().and_then(|count| {
+        reader.check_count(u64::from(count), size)?;
+        Ok(count)
+    });
+    match count {
+        Err(error) => out.put("refused").number(error.number()),
+        Ok(count) => out.ok().number(count).number(reader.position()),
+    };
+    Some(())
+}
+
+fn ten_thousandths(fields: &mut Fields, out: &mut Answers) -> Option<()> {
+    let mz = f64::from_bits(fields.u64()?);
+    fields.end()?;
+    match listing::ten_thousandths(mz) {
+        None => out.put("refused 9"),
+        Some(number) => out.ok().number(number),
+    };
     Some(())
 }
 

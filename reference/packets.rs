@@ -4,7 +4,7 @@ use crate::answer::{lent32, lent64, lent8, made_bits32, made_bits64, Answers, Pa
 use crate::error;
 use crate::reader_at;
 use crate::request::Fields;
-use crate::scan_data::{PacketHeader, Peak, Profile, ScanDataPacket};
+use crate::scan_data::{NoiseNode, PacketHeader, Peak, Profile, ScanDataPacket};
 
 pub fn packet_header(fields: &mut Fields, out: &mut Answers) -> Option<()> {
     let place = fields.u64()?;
@@ -17,7 +17,7 @@ pub fn packet_header(fields: &mut Fields, out: &mut Answers) -> Option<()> {
     Some(())
 }
 
-fn put_header<'a>(out: &'a mut Answers, header: &PacketHeader) -> &'a mut Answers {
+pub fn put_header<'a>(out: &'a mut Answers, header: &PacketHeader) -> &'a mut Answers {
     out.number(header.profile_size)
         .number(header.peak_list_size)
         .number(header.layout)
@@ -251,39 +251,116 @@ pub fn narrow(fields: &mut Fields, out: &mut Answers) -> Option<()> {
     Some(())
 }
 
+/// The bits of noise and baseline at an m/z. Outside the nodes they are a node's own, which keep their bits; between two
+/// nodes they are made.
+fn noise_bits(packet: &ScanDataPacket, mz: f64) -> Option<(u32, u32)> {
+    let (noise, baseline) = packet.noise_at(mz)?;
+    let reaches = |node: &NoiseNode| mz as f32 <= node.mz;
+    let nodes = &packet.noise_nodes;
+    let stored = reaches(&nodes[0]) || !nodes[1..].iter().any(reaches);
+    Some(if stored {
+        (noise.to_bits(), baseline.to_bits())
+    } else {
+        (made_bits32(noise), made_bits32(baseline))
+    })
+}
+
+fn put_noise<'a>(out: &'a mut Answers, packet: &ScanDataPacket, mz: f64) -> &'a mut Answers {
+    match noise_bits(packet, mz) {
+        None => out.none(),
+        Some((noise, baseline)) => out.ok().bits32(noise).bits32(baseline),
+    }
+}
+
 pub fn noise(fields: &mut Fields, out: &mut Answers) -> Option<()> {
     let mz = f64::from_bits(fields.u64()?);
     let nodes = fields.bytes()?;
     fields.end()?;
-    match ScanDataPacket::with_nodes(&nodes).noise_at(mz) {
-        None => out.none(),
-        Some((noise, baseline)) => out.ok().made32(noise).made32(baseline),
+    put_noise(out, &ScanDataPacket::with_nodes(&nodes), mz);
+    Some(())
+}
+
+/// Noise from a packet that was read.
+pub fn packet_noise(fields: &mut Fields, out: &mut Answers) -> Option<()> {
+    let mz = f64::from_bits(fields.u64()?);
+    let place = fields.u64()?;
+    let bytes = fields.bytes()?;
+    fields.end()?;
+    match ScanDataPacket::read_skip_profile(&mut reader_at(&bytes, place)) {
+        Err(error) => out.refused(&error, Part::Data),
+        Ok(packet) => put_noise(out, &packet, mz),
     };
+    Some(())
+}
+
+/// The slices lent for labels: a byte, a noise and a baseline for each mass.
+struct LabelSlices {
+    flags: Vec<u8>,
+    noises: Vec<u32>,
+    baselines: Vec<u32>,
+}
+
+impl LabelSlices {
+    /// The fields F, N and B.
+    fn lent(fields: &mut Fields) -> Option<Self> {
+        Some(Self {
+            flags: lent8(fields.lent_elements()?),
+            noises: lent32(fields.lent_elements()?),
+            baselines: lent32(fields.lent_elements()?),
+        })
+    }
+
+    fn hold(&self, count: usize) -> bool {
+        self.flags.len().min(self.noises.len()).min(self.baselines.len()) >= count
+    }
+
+    /// Fills slices that hold a label for each mass.
+    fn fill(&mut self, packet: &ScanDataPacket, masses: &[f64]) {
+        for (at, mz) in masses.iter().enumerate() {
+            let label = noise_bits(packet, *mz);
+            let (noise, baseline) = label.unwrap_or((0, 0));
+            self.flags[at] = u8::from(label.is_some());
+            self.noises[at] = noise;
+            self.baselines[at] = baseline;
+        }
+    }
+
+    fn put<'a>(&self, out: &'a mut Answers) -> &'a mut Answers {
+        out.slice8(&self.flags).slice32(&self.noises).slice32(&self.baselines)
+    }
+}
+
+/// Labels for the peaks of a packet that was read.
+pub fn packet_labels(fields: &mut Fields, out: &mut Answers) -> Option<()> {
+    let place = fields.u64()?;
+    let mut labels = LabelSlices::lent(fields)?;
+    let bytes = fields.bytes()?;
+    fields.end()?;
+    match ScanDataPacket::read_skip_profile(&mut reader_at(&bytes, place)) {
+        Err(error) => out.refused(&error, Part::Data),
+        Ok(packet) if !labels.hold(packet.peaks.len()) => out.too_short(),
+        Ok(packet) => {
+            let masses: Vec<f64> = packet.peaks.iter().map(|peak| peak.mz).collect();
+            labels.fill(&packet, &masses);
+            out.ok().number(masses.len())
+        }
+    };
+    labels.put(out);
     Some(())
 }
 
 /// The original has no labels for a peak list: they are what it answers at each mass.
 pub fn labels(fields: &mut Fields, out: &mut Answers) -> Option<()> {
     let masses = fields.f64s()?;
-    let mut flags = lent8(fields.lent_elements()?);
-    let mut noises = lent32(fields.lent_elements()?);
-    let mut baselines = lent32(fields.lent_elements()?);
+    let mut labels = LabelSlices::lent(fields)?;
     let nodes = fields.bytes()?;
     fields.end()?;
-    let packet = ScanDataPacket::with_nodes(&nodes);
-    let shortest = flags.len().min(noises.len()).min(baselines.len());
-    if shortest < masses.len() {
-        out.too_short();
-    } else {
-        for (at, mz) in masses.iter().enumerate() {
-            let label = packet.noise_at(*mz);
-            let (noise, baseline) = label.unwrap_or((0.0, 0.0));
-            flags[at] = u8::from(label.is_some());
-            noises[at] = made_bits32(noise);
-            baselines[at] = made_bits32(baseline);
-        }
+    if labels.hold(masses.len()) {
+        labels.fill(&ScanDataPacket::with_nodes(&nodes), &masses);
         out.ok().number(masses.len());
+    } else {
+        out.too_short();
     }
-    out.slice8(&flags).slice32(&noises).slice32(&baselines);
+    labels.put(out);
     Some(())
 }

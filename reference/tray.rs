@@ -2,6 +2,7 @@
 
 use crate::answer::{lent64, made_bits64, Answers, Part};
 use crate::error;
+use crate::places;
 use crate::request::Fields;
 use crate::scan_data::{read_flat_peaks, read_scan_srm_v66, Peak, ScanDataPacket};
 use crate::scan_event::ScanEvent;
@@ -124,6 +125,24 @@ impl<'a> Tray<'a> {
             event_end,
             pairs,
         })
+    }
+
+    /// The place of event k in the run.
+    pub fn event_place(&self, k: u32) -> Result<u64, Refusal> {
+        if k >= self.scans {
+            return Err(NO_SUCH_SCAN);
+        }
+        self.behind_events(self.events, k)
+    }
+
+    /// The place behind the event at a place.
+    pub fn behind_event(&self, place: u64) -> Result<u64, Refusal> {
+        self.behind_events(place, 1)
+    }
+
+    fn behind_events(&self, place: u64, count: u32) -> Result<u64, Refusal> {
+        let sizes = (self.primary, self.dependent);
+        places::behind_events(self.run, place, count, self.version, sizes).in_part(Part::Event)
     }
 
     fn entry(&self, k: u32) -> error::Result<ScanIndexEntry> {
@@ -253,7 +272,7 @@ fn scan_by(fields: &mut Fields, out: &mut Answers, k: u32, event_at: Option<u64>
     Some(())
 }
 
-fn put_refusal<'a>(out: &'a mut Answers, refusal: &Refusal) -> &'a mut Answers {
+pub fn put_refusal<'a>(out: &'a mut Answers, refusal: &Refusal) -> &'a mut Answers {
     out.put("refused").number(refusal.number());
     match refusal {
         Refusal::RanOut(part) => out.number(*part as u32),
