@@ -1,5 +1,4 @@
 -- What a flat record answers, by what its attempts come to.
--- Assumes nothing.
 use mathlib.Core.Path.{_≡_, refl, ap, sym}
 use Prim.Native.Nat.{ℕ, _*_, _-_, _≤_, _<_}
 use native.Mathlib.Omega.{arith}
@@ -9,11 +8,12 @@ use lib.Dec.{leb, ltb}
 use lib.ListN.{length}
 use borrow.Author.Tests.{le-leb, lt-leb}
 use Rattle.refusal.specs.Outcome.{Outcome, ok, refused, ranOut}
+use Rattle.lists.specs.Left.{handOutPairs}
 use Rattle.lists.proofs.Laws.{each-none}
 use Rattle.parser.specs.Parser.{done, seek, Parsed, short, parsed, left, within, parse}
 use Rattle.parser.specs.Call.{onward, outcome, single}
 use Rattle.parser.proofs.Prefix.{after, parse-bind}
-use Rattle.peaks.specs.Peaks.{Peak, peaksAt, handOut}
+use Rattle.peaks.specs.Peaks.{Peak, peaksAt}
 use Rattle.peaks.proofs.Columns.{length-peaks}
 use Rattle.flat.specs.Flat.{recordEnd, looksValid, Attempt, accepted, passedOver, peaksFrom, attempt, orElse, attempts, flatPeaks, ofAccepted, placeAndCount, readFlatPeaks, findFlatPeaks}
 use Rattle.flat.specs.Judged.{judged}
@@ -159,10 +159,10 @@ module _ {A : Type 0} (follow : List Peak → Outcome A) (place cumEnd dataSize 
       go (parsed passedOver next) e = let q : number ≡ 2 = cc in let r : carries ≡ [] = cc in rw (q, r)
 
 module _ (place cumEnd dataSize : ℕ) (s : List ℕ) (m a : ℕ) where
-  pub read-found : (p n : ℕ) → ok (p, n) ≡ findFlatPeaks place cumEnd dataSize s → handOut m a (peaksAt false 8 s p n) ≡ readFlatPeaks m a place cumEnd dataSize s
+  pub read-found : (p n : ℕ) → ok (p, n) ≡ findFlatPeaks place cumEnd dataSize s → handOutPairs m a (peaksAt false 8 s p n) ≡ readFlatPeaks m a place cumEnd dataSize s
   unfolding readFlatPeaks
-  read-found = then-found (handOut m a) place cumEnd dataSize s
+  read-found = then-found (handOutPairs m a) place cumEnd dataSize s
 
   pub read-refused : {number : ℕ} {carries : List ℕ} → refused number carries ≡ findFlatPeaks place cumEnd dataSize s → refused number carries ≡ readFlatPeaks m a place cumEnd dataSize s
   unfolding readFlatPeaks
-  read-refused = then-refused (handOut m a) place cumEnd dataSize s
+  read-refused = then-refused (handOutPairs m a) place cumEnd dataSize s

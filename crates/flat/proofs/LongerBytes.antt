@@ -1,18 +1,23 @@
 -- Demand 3 for flat peaks. The data size has 32 bits.
--- Assumes nothing.
+use mathlib.Core.Path.{_≡_}
 use Prim.Native.Nat.{ℕ, _*_, _-_, _^_, _≤_, _<_}
 use native.Mathlib.Omega.{arith}
 use mathlib.Core.Bool.{Bool, true, false, cond}
 use mathlib.Core.List.{List, []}
 use lib.Dec.{leb, ltb, lit≤}
+use lib.ListN.{length}
 use Rattle.refusal.specs.Outcome.{Outcome}
 use Rattle.parser.specs.Parser.{done, seek}
-use Rattle.parser.specs.Call.{single}
-use Rattle.parser.specs.LongerBytes.{PrefixProperty, Completes}
+use Rattle.parser.specs.Call.{outcome, single}
+use Rattle.parser.specs.LongerBytes.{OnLongerBytes, PrefixProperty, Names, Completes}
 use Rattle.parser.proofs.Completion.{Bounded, extent, bounded-sized, bounded-bind, bounded-more, yields-any}
-use Rattle.parser.proofs.Calls.{Settled, prefix-property, single-completes}
-use Rattle.peaks.specs.Peaks.{Peak, handOut}
-use Rattle.peaks.proofs.Results.{hand-out-settled}
+use Rattle.parser.proofs.Calls.{settled-pairs, Settled, prefix-property, only-part, single-completes}
+use Rattle.parser.proofs.OnLongerBytes.{one-part, left-longer, plain-longer}
+use Rattle.refusal.specs.Number.{toldCount}
+use Rattle.refusal.proofs.Told.{count-one}
+use Rattle.lists.specs.Left.{columns, handOutPairs, LeftPairs}
+use Rattle.peaks.specs.Peaks.{Peak, toldPlace}
+use Rattle.peaks.proofs.Told.{place-told-one}
 use Rattle.flat.specs.Flat.{recordEnd, Attempt, accepted, passedOver, verdict, peaksFrom, attempt, orElse, attempts, flatPeaks, ofAccepted, placeAndCount, readFlatPeaks, findFlatPeaks}
 use Rattle.flat.proofs.Attempts.{counted, counted-sized}
 
@@ -71,28 +76,63 @@ accepted-settled f h (accepted place peaks) = h place peaks
 accepted-settled f h passedOver = tt
 
 module _ (place cumEnd dataSize : ℕ) where
+  end : ℕ
+  end = recordEnd place cumEnd
+
+  module _ {A : Type 0} (f : ℕ → List Peak → Outcome A) (settled : (p : ℕ) (peaks : List Peak) → Settled (f p peaks)) where
+    -- what is made of accepted peaks
+    call : List ℕ → Outcome A
+    call s = outcome (single 4 end (flatPeaks end cumEnd dataSize) (λ v _. ofAccepted f v)) s
+
+    call-prefix : PrefixProperty call
+    unfolding call
+    call-prefix = prefix-property (single 4 end (flatPeaks end cumEnd dataSize) (λ v _. ofAccepted f v))
+
+    call-names : Names (λ q. q ≡ 4) call
+    unfolding call
+    call-names = only-part 4 end (flatPeaks end cumEnd dataSize) _ (λ v _. accepted-settled f settled v)
+
+    call-completes : dataSize < 2 ^ 32 → Completes 4 end call
+    unfolding call
+    call-completes size s isBytes few near =
+        single-completes 4 end (flatPeaks end cumEnd dataSize) (λ v _. ofAccepted f v) (flat-bounded end cumEnd dataSize near size) (λ v _. accepted-settled f settled v)
+        s isBytes few near
+
   pub flat-prefix : (m a : ℕ) → PrefixProperty (readFlatPeaks m a place cumEnd dataSize)
-  unfolding readFlatPeaks
-  flat-prefix m a =
-      prefix-property (single 4 (recordEnd place cumEnd) (flatPeaks (recordEnd place cumEnd) cumEnd dataSize) (λ v _. ofAccepted (λ _ peaks. handOut m a peaks) v))
+  unfolding readFlatPeaks call end
+  flat-prefix m a = call-prefix (λ _ peaks. handOutPairs m a peaks) (λ _ peaks. settled-pairs m a peaks)
+
+  pub flat-names : (m a : ℕ) → Names (λ q. q ≡ 4) (readFlatPeaks m a place cumEnd dataSize)
+  unfolding readFlatPeaks call end
+  flat-names m a = call-names (λ _ peaks. handOutPairs m a peaks) (λ _ peaks. settled-pairs m a peaks)
 
   pub find-prefix : PrefixProperty (findFlatPeaks place cumEnd dataSize)
-  unfolding findFlatPeaks
-  find-prefix = prefix-property (single 4 (recordEnd place cumEnd) (flatPeaks (recordEnd place cumEnd) cumEnd dataSize) (λ v _. ofAccepted placeAndCount v))
+  unfolding findFlatPeaks call end
+  find-prefix = call-prefix placeAndCount (λ _ _. tt)
+
+  pub find-names : Names (λ q. q ≡ 4) (findFlatPeaks place cumEnd dataSize)
+  unfolding findFlatPeaks call end
+  find-names = call-names placeAndCount (λ _ _. tt)
 
   module _ (size : dataSize < 2 ^ 32) where
     pub flat-completes : (m a : ℕ) → Completes 4 (recordEnd place cumEnd) (readFlatPeaks m a place cumEnd dataSize)
-    unfolding readFlatPeaks
-    flat-completes m a s isBytes few near =
-        single-completes 4 (recordEnd place cumEnd) (flatPeaks (recordEnd place cumEnd) cumEnd dataSize) (λ v _. ofAccepted (λ _ peaks. handOut m a peaks) v)
-        (flat-bounded (recordEnd place cumEnd) cumEnd dataSize near size)
-        (λ v _. accepted-settled (λ _ peaks. handOut m a peaks) (λ _ peaks. hand-out-settled m a peaks) v)
-        s isBytes few near
+    unfolding readFlatPeaks call end
+    flat-completes m a = call-completes (λ _ peaks. handOutPairs m a peaks) (λ _ peaks. settled-pairs m a peaks) size
 
     pub find-completes : Completes 4 (recordEnd place cumEnd) (findFlatPeaks place cumEnd dataSize)
-    unfolding findFlatPeaks
-    find-completes s isBytes few near =
-        single-completes 4 (recordEnd place cumEnd) (flatPeaks (recordEnd place cumEnd) cumEnd dataSize) (λ v _. ofAccepted placeAndCount v)
-        (flat-bounded (recordEnd place cumEnd) cumEnd dataSize near size)
-        (λ v _. accepted-settled placeAndCount (λ _ _. tt) v)
-        s isBytes few near
+    unfolding findFlatPeaks call end
+    find-completes = call-completes placeAndCount (λ _ _. tt) size
+
+    pub find-longer : OnLongerBytes toldPlace (λ s r (_ : Unit {0}). toldPlace r ≡ findFlatPeaks place cumEnd dataSize s) (λ q. q ≡ 4) (λ _ _. recordEnd place cumEnd < 2 ^ 62)
+    find-longer =
+        plain-longer toldPlace place-told-one (findFlatPeaks place cumEnd dataSize) find-prefix (λ q. q ≡ 4) (λ _ _. recordEnd place cumEnd < 2 ^ 62) find-names
+        (one-part 4 (recordEnd place cumEnd) (findFlatPeaks place cumEnd dataSize) find-names find-completes)
+
+    pub flat-longer : (mz abundance : List ℕ)
+        → OnLongerBytes toldCount (λ s r (ys : List ℕ × List ℕ). LeftPairs (λ m a. readFlatPeaks m a place cumEnd dataSize s) mz abundance r (ys .0) (ys .1)) (λ q. q ≡ 4)
+        (λ _ _. recordEnd place cumEnd < 2 ^ 62)
+    flat-longer mz abundance =
+        let m = length mz in
+        let a = length abundance in
+        left-longer toldCount count-one (readFlatPeaks m a place cumEnd dataSize) (flat-prefix m a) (λ q. q ≡ 4) (λ _ _. recordEnd place cumEnd < 2 ^ 62) (flat-names m a)
+        (one-part 4 (recordEnd place cumEnd) (readFlatPeaks m a place cumEnd dataSize) (flat-names m a) (flat-completes m a)) length columns (mz, abundance)

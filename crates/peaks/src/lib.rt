@@ -2,24 +2,19 @@
 // flat records and SRM records hand their peaks out here.
 ghost use mathlib.Core.Path.{_≡_};
 ghost use Prim.Native.Nat.{_+_, _*_};
-ghost use lib.ListN.{length};
+ghost use Rattle.lists.specs.Left.{firsts, seconds, handOutPairs, LeftList, LeftPairs};
 ghost use Rattle.lists.specs.Written.{each, fitting};
 ghost use Rattle.parser.specs.Parser.{bytes, le};
-ghost use Rattle.peaks.specs.Peaks.{widenedBits, peaksAt, masses, abundances, handOut, result, leaves};
+ghost use Rattle.peaks.specs.Peaks.{widenedBits, peaksAt};
 use floats::bits_of_f64;
 use floats::widened;
+use lists::holds;
 use reader::copy_u32s;
 use reader::copy_u64s;
 use reader::saturating_add;
-use reader::smaller;
 use reader::u32_at;
+use refusal::CountAnswer;
 use refusal::Refusal;
-
-// How many peaks there are.
-pub enum PeaksAnswer {
-    Peaks(u64),
-    Refused(Refusal),
-}
 
 // Where the m/z of the first of some peaks stands, and how many there are.
 pub enum PeaksPlace {
@@ -33,22 +28,26 @@ fn widened_bits(bits: u32) -> u64
     bits_of_f64(widened(bits))
 }
 
-// Masses that are stored as f32, over the front of a lent slice, as far as it goes.
-fn copy_widened(run: &[u8], at: u64, stride: u64, n: u64, out: &mut [u64])
-    ensures { λ _. ⌜ now (out .exit) ≡ fitting (each (λ i. widenedBits (le (bytes (now (run .entry)) (at + i * stride) 4))) n) (now (out .entry)) ⌝ }
+// Masses that are stored as f32, over the front of a lent slice that holds them.
+fn copy_widened(run: &[u8], at: u64, stride: u64, n: u64, out: &mut [u64]) -> CountAnswer
+    ensures { λ r. ⌜ LeftList (each (λ i. widenedBits (le (bytes (now (run .entry)) (at + i * stride) 4))) n) (now (out .entry)) r (now (out .exit)) ⌝ }
 {
-    let room = smaller(n, out.len() as u64) as usize;
+    if n > out.len() as u64 {
+        return CountAnswer::Refused(Refusal::NoRoom);
+    }
+    let end = n as usize;
     let mut place = at;
     let mut i: usize = 0;
-    while i < room {
+    while i < end {
         out[i] = widened_bits(u32_at(run, place));
         place = saturating_add(place, stride);
         i = i + 1;
     }
+    CountAnswer::Count(n)
 }
 
 // The columns of n peaks, each `stride` bytes behind the one before: an m/z, and right behind it the abundance.
-pub fn write_peaks(
+fn write_peaks(
     run: &[u8],
     at: u64,
     stride: u64,
@@ -57,8 +56,8 @@ pub fn write_peaks(
     mz: &mut [u64],
     abundance: &mut [u32],
 )
-    ensures { λ _. ⌜ now (mz .exit) ≡ fitting (masses (peaksAt wide stride (now (run .entry)) at n)) (now (mz .entry)) ⌝ }
-    ensures { λ _. ⌜ now (abundance .exit) ≡ fitting (abundances (peaksAt wide stride (now (run .entry)) at n)) (now (abundance .entry)) ⌝ }
+    ensures { λ _. ⌜ now (mz .exit) ≡ fitting (firsts (peaksAt wide stride (now (run .entry)) at n)) (now (mz .entry)) ⌝ }
+    ensures { λ _. ⌜ now (abundance .exit) ≡ fitting (seconds (peaksAt wide stride (now (run .entry)) at n)) (now (abundance .entry)) ⌝ }
 {
     if wide {
         copy_u64s(run, at, stride, n, mz);
@@ -69,7 +68,7 @@ pub fn write_peaks(
     copy_u32s(run, saturating_add(at, 4), stride, n, abundance);
 }
 
-// The same, where the slices hold them.
+// The same, where both slices hold them.
 pub fn hand_out(
     run: &[u8],
     at: u64,
@@ -78,14 +77,12 @@ pub fn hand_out(
     wide: bool,
     mz: &mut [u64],
     abundance: &mut [u32],
-) -> PeaksAnswer
-    ensures { λ r. ⌜ result r (now (mz .exit)) (now (abundance .exit)) ≡ leaves (handOut (length (now (mz .entry))) (length (now (abundance .entry))) (peaksAt wide stride (now (run .entry)) at n)) (now (mz .entry)) (now (abundance .entry)) ⌝ }
+) -> CountAnswer
+    ensures { λ r. ⌜ LeftPairs (λ m a. handOutPairs m a (peaksAt wide stride (now (run .entry)) at n)) (now (mz .entry)) (now (abundance .entry)) r (now (mz .exit)) (now (abundance .exit)) ⌝ }
 {
-    if n <= mz.len() as u64 {
-        if n <= abundance.len() as u64 {
-            write_peaks(run, at, stride, n, wide, mz, abundance);
-            return PeaksAnswer::Peaks(n);
-        }
+    if holds(n, mz.len() as u64, holds(n, abundance.len() as u64, true)) {
+        write_peaks(run, at, stride, n, wide, mz, abundance);
+        return CountAnswer::Count(n);
     }
-    PeaksAnswer::Refused(Refusal::NoRoom)
+    CountAnswer::Refused(Refusal::NoRoom)
 }

@@ -1,20 +1,20 @@
 -- What a scan answers, by its count of channels.
--- Assumes nothing.
 use mathlib.Core.Path.{_≡_, refl, ap, sym, _∙_}
 use Prim.Native.Nat.{ℕ, _+_, _*_}
 use native.Mathlib.Omega.{arith}
 use mathlib.Core.Bool.{false}
 use mathlib.Core.List.{List, []}
 use lib.ListN.{length}
-use Rattle.refusal.specs.Outcome.{Outcome, ok, refused}
+use Rattle.refusal.specs.Outcome.{Outcome, ok, refused, andThen}
+use Rattle.lists.specs.Left.{handOutPairs}
 use Rattle.lists.proofs.Laws.{each-none}
 use Rattle.parser.specs.Call.{outcome, single}
-use Rattle.peaks.specs.Peaks.{Peak, peaksAt, handOut}
+use Rattle.peaks.specs.Peaks.{Peak, peaksAt}
 use Rattle.peaks.proofs.Columns.{length-peaks}
-use Rattle.srm.specs.Scan.{start, scan, peaks, readScan, findPeaks, windows, handOutWindows, readWindows}
+use Rattle.srm.specs.Scan.{start, scan, peaks, readScan, findPeaks, windows, readWindows}
 use Rattle.srm.specs.Channels.{channels, windowsAt}
 use Rattle.srm.proofs.Tables.{peaks-sized, windows-sized, peaks-are, windows-are}
-use Rattle.srm.proofs.Counting.{followed, by-channels}
+use Rattle.srm.proofs.Counting.{by-channels}
 
 module _ (place offset : ℕ) (s : List ℕ) (at : ℕ) (is : at ≡ start place offset) where
   -- the peaks
@@ -29,12 +29,12 @@ module _ (place offset : ℕ) (s : List ℕ) (at : ℕ) (is : at ≡ start place
   unfolding list
   length-list n = length-peaks false 12 s (at + 36 + n * 8) n
 
-  found-by : findPeaks place offset s ≡ followed (channels 20 s at) (λ n. ok (at + 36 + length (list n) * 8, length (list n)))
+  found-by : findPeaks place offset s ≡ andThen (channels 20 s at) (λ n. ok (at + 36 + length (list n) * 8, length (list n)))
   unfolding findPeaks list
   found-by = rw (← is) (by-channels 20 peaks peaks-sized s at list (peaks-are s at) list-none _)
 
   then-by : {A : Type 0} (follow : List Peak → Outcome A)
-      → outcome (single 4 (start place offset) (scan peaks) (λ ps _. follow ps)) s ≡ followed (channels 20 s at) (λ n. follow (list n))
+      → outcome (single 4 (start place offset) (scan peaks) (λ ps _. follow ps)) s ≡ andThen (channels 20 s at) (λ n. follow (list n))
   unfolding list
   then-by follow = rw (← is) (by-channels 20 peaks peaks-sized s at list (peaks-are s at) list-none _)
 
@@ -46,11 +46,11 @@ module _ (place offset : ℕ) (s : List ℕ) (at : ℕ) (is : at ≡ start place
 
   -- the windows
   module _ (l h : ℕ) where
-    windows-by : readWindows l h place offset s ≡ followed (channels 8 s at) (λ n. handOutWindows l h (windowsAt s (at + 32) n))
+    windows-by : readWindows l h place offset s ≡ andThen (channels 8 s at) (λ n. handOutPairs l h (windowsAt s (at + 32) n))
     unfolding readWindows windowsAt
     windows-by = rw (← is) (by-channels 8 windows windows-sized s at (windowsAt s (at + 32)) (windows-are s at) (sym (each-none _)) _)
 
-    pub windows-there : (n : ℕ) → ok n ≡ channels 8 s at → handOutWindows l h (windowsAt s (at + 32) n) ≡ readWindows l h place offset s
+    pub windows-there : (n : ℕ) → ok n ≡ channels 8 s at → handOutPairs l h (windowsAt s (at + 32) n) ≡ readWindows l h place offset s
     windows-there n e = rw (windows-by, ← e)
 
     pub no-windows : {number : ℕ} {carries : List ℕ} → refused number carries ≡ channels 8 s at → refused number carries ≡ readWindows l h place offset s
@@ -93,10 +93,10 @@ module _ {A : Type 0} (follow : List Peak → Outcome A) (place offset : ℕ) (s
           rw (same, carried, then-by place offset s at refl follow, h)
 
 module _ (place offset : ℕ) (s : List ℕ) (m a : ℕ) where
-  pub read-found : (p n : ℕ) → ok (p, n) ≡ findPeaks place offset s → handOut m a (peaksAt false 12 s p n) ≡ readScan m a place offset s
+  pub read-found : (p n : ℕ) → ok (p, n) ≡ findPeaks place offset s → handOutPairs m a (peaksAt false 12 s p n) ≡ readScan m a place offset s
   unfolding readScan
-  read-found = then-found (handOut m a) place offset s
+  read-found = then-found (handOutPairs m a) place offset s
 
   pub read-refused : {number : ℕ} {carries : List ℕ} → refused number carries ≡ findPeaks place offset s → refused number carries ≡ readScan m a place offset s
   unfolding readScan
-  read-refused = then-refused (handOut m a) place offset s
+  read-refused = then-refused (handOutPairs m a) place offset s

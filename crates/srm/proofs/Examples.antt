@@ -1,5 +1,4 @@
 -- SRM scans by computation: one channel, none, and bytes that break off.
--- Assumes nothing.
 use mathlib.Core.Path.{_≡_, refl}
 use Prim.Native.Nat.{ℕ}
 use mathlib.Core.List.{List, [], _∷_, _++_}
@@ -8,8 +7,9 @@ use lib.ListN.{take, replicate}
 use Rattle.refusal.specs.Outcome.{ok, refused}
 use Rattle.parser.specs.Parser.{parse, repeat}
 use Rattle.parser.specs.Call.{outcome}
-use Rattle.peaks.specs.Peaks.{peak, handOut}
-use Rattle.srm.specs.Scan.{behind, scan, channel, peaks, readScan, findPeaks, window, windows, handOutWindows, readWindows}
+use Rattle.lists.specs.Left.{handOutPairs}
+use Rattle.peaks.specs.Peaks.{peak}
+use Rattle.srm.specs.Scan.{behind, scan, channel, peaks, readScan, findPeaks, window, windows, readWindows}
 
 -- a byte, then a scan: one channel; its window of 10 to 100; its number 7, 500.03125 and 2.0
 abbrev one : List ℕ
@@ -23,7 +23,7 @@ peaks-of-one :
     × (readScan 1 0 0 1 one ≡ refused 8 [])
     × (readScan 1 1 0 1 (take 52 one) ≡ refused 1 (4 ∷ []))
     × (readScan 0 0 1 1 (0 ∷ 0 ∷ 0 ∷ 0 ∷ 0 ∷ 0 ∷ []) ≡ ok [])
-unfolding readScan findPeaks outcome parse scan behind peaks channel repeat peak handOut ofBits toBits
+unfolding readScan findPeaks outcome parse scan behind peaks channel repeat peak handOutPairs ofBits toBits
 peaks-of-one = (refl, refl, refl, refl, refl)
 
 windows-of-one :
@@ -31,5 +31,5 @@ windows-of-one :
     × (readWindows 1 1 0 1 (take 41 one) ≡ ok ((0x4120_0000, 0x42c8_0000) ∷ []))
     × (readWindows 1 1 0 1 (take 40 one) ≡ refused 1 (4 ∷ []))
     × (readWindows 0 1 0 1 one ≡ refused 8 [])
-unfolding readWindows outcome parse scan behind windows window repeat handOutWindows
+unfolding readWindows outcome parse scan behind windows window repeat handOutPairs
 windows-of-one = (refl, refl, refl, refl)

@@ -1,22 +1,26 @@
 -- Demand 3 for the SRM scans.
--- Assumes nothing.
+use mathlib.Core.Path.{_≡_}
 use Prim.Native.Nat.{ℕ, _+_, _*_, _-_, _^_, _≤_, _<_}
 use native.Mathlib.Nat.{mul-le-mul-left}
 use native.Mathlib.Omega.{arith}
-use mathlib.Core.Bool.{Bool, true, false, _&&_, cond}
+use mathlib.Core.Bool.{Bool, true, false, cond}
 use mathlib.Core.List.{List, []}
-use lib.Dec.{leb, eqb, lit≤}
+use lib.Dec.{eqb, lit≤}
 use lib.ListN.{length}
-use Rattle.refusal.specs.Outcome.{ok, refused}
+use Rattle.refusal.specs.Outcome.{ok}
 use Rattle.parser.specs.Parser.{Parser, done, skip, _>>_}
 use Rattle.parser.specs.Call.{single}
 use Rattle.parser.specs.Fixed.{Sized}
-use Rattle.parser.specs.LongerBytes.{PrefixProperty, Completes}
+use Rattle.parser.specs.LongerBytes.{OnLongerBytes, PrefixProperty, Names, Completes}
 use Rattle.parser.proofs.Completion.{Bounded, extent, extent-sized, bounded-sized, bounded-word, bounded-more}
-use Rattle.parser.proofs.Calls.{Settled, settled-cond, prefix-property, single-completes}
-use Rattle.peaks.specs.Peaks.{handOut}
-use Rattle.peaks.proofs.Results.{hand-out-settled}
-use Rattle.srm.specs.Scan.{start, behind, scan, peaks, readScan, findPeaks, Window, windows, handOutWindows, readWindows}
+use Rattle.parser.proofs.Calls.{settled-pairs, prefix-property, only-part, single-completes}
+use Rattle.parser.proofs.OnLongerBytes.{one-part, left-longer, plain-longer}
+use Rattle.refusal.specs.Number.{toldCount}
+use Rattle.refusal.proofs.Told.{count-one}
+use Rattle.lists.specs.Left.{columns, handOutPairs, LeftPairs}
+use Rattle.peaks.specs.Peaks.{toldPlace}
+use Rattle.peaks.proofs.Told.{place-told-one}
+use Rattle.srm.specs.Scan.{start, behind, scan, peaks, readScan, findPeaks, windows, readWindows}
 use Rattle.srm.proofs.Tables.{skipped-sized, peaks-sized, windows-sized}
 
 -- a scan asks for at most 4 + 2^37 bytes
@@ -45,34 +49,62 @@ peaks-bounded = scan-bounded 20 (lit≤ tt) peaks peaks-sized
 windows-bounded : Bounded (2 ^ 62) (2 ^ 61) (scan windows)
 windows-bounded = scan-bounded 8 (lit≤ tt) windows windows-sized
 
-windows-settled : (l h : ℕ) (ws : List Window) → Settled (handOutWindows l h ws)
-unfolding handOutWindows
-windows-settled l h ws = settled-cond (leb (length ws) l && leb (length ws) h) (ok ws) (refused 8 []) tt tt
-
 module _ (place offset : ℕ) where
-  pub srm-prefix : (m a : ℕ) → PrefixProperty (readScan m a place offset)
-  unfolding readScan
-  srm-prefix m a = prefix-property (single 4 (start place offset) (scan peaks) (λ ps _. handOut m a ps))
-
-  pub srm-completes : (m a : ℕ) → Completes 4 (start place offset) (readScan m a place offset)
-  unfolding readScan
-  srm-completes m a =
-      single-completes 4 (start place offset) (scan peaks) (λ ps _. handOut m a ps) peaks-bounded (λ ps _. hand-out-settled m a ps)
-
   pub find-prefix : PrefixProperty (findPeaks place offset)
   unfolding findPeaks
   find-prefix = prefix-property (single 4 (start place offset) (scan peaks) (λ ps _. ok (start place offset + 36 + length ps * 8, length ps)))
+
+  pub find-names : Names (λ q. q ≡ 4) (findPeaks place offset)
+  unfolding findPeaks
+  find-names = only-part 4 (start place offset) (scan peaks) _ (λ _ _. tt)
 
   pub find-completes : Completes 4 (start place offset) (findPeaks place offset)
   unfolding findPeaks
   find-completes =
       single-completes 4 (start place offset) (scan peaks) (λ ps _. ok (start place offset + 36 + length ps * 8, length ps)) peaks-bounded (λ _ _. tt)
 
-  pub windows-prefix : (l h : ℕ) → PrefixProperty (readWindows l h place offset)
-  unfolding readWindows
-  windows-prefix l h = prefix-property (single 4 (start place offset) (scan windows) (λ ws _. handOutWindows l h ws))
+  pub find-longer : OnLongerBytes toldPlace (λ s r (_ : Unit {0}). toldPlace r ≡ findPeaks place offset s) (λ q. q ≡ 4) (λ _ _. start place offset < 2 ^ 62)
+  find-longer =
+      plain-longer toldPlace place-told-one (findPeaks place offset) find-prefix (λ q. q ≡ 4) (λ _ _. start place offset < 2 ^ 62) find-names
+      (one-part 4 (start place offset) (findPeaks place offset) find-names find-completes)
 
-  pub windows-completes : (l h : ℕ) → Completes 4 (start place offset) (readWindows l h place offset)
-  unfolding readWindows
-  windows-completes l h =
-      single-completes 4 (start place offset) (scan windows) (λ ws _. handOutWindows l h ws) windows-bounded (λ ws _. windows-settled l h ws)
+  module _ (m a : ℕ) where
+    pub srm-prefix : PrefixProperty (readScan m a place offset)
+    unfolding readScan
+    srm-prefix = prefix-property (single 4 (start place offset) (scan peaks) (λ ps _. handOutPairs m a ps))
+
+    pub srm-names : Names (λ q. q ≡ 4) (readScan m a place offset)
+    unfolding readScan
+    srm-names = only-part 4 (start place offset) (scan peaks) _ (λ ps _. settled-pairs m a ps)
+
+    pub srm-completes : Completes 4 (start place offset) (readScan m a place offset)
+    unfolding readScan
+    srm-completes = single-completes 4 (start place offset) (scan peaks) (λ ps _. handOutPairs m a ps) peaks-bounded (λ ps _. settled-pairs m a ps)
+
+    pub windows-prefix : PrefixProperty (readWindows m a place offset)
+    unfolding readWindows
+    windows-prefix = prefix-property (single 4 (start place offset) (scan windows) (λ ws _. handOutPairs m a ws))
+
+    pub windows-names : Names (λ q. q ≡ 4) (readWindows m a place offset)
+    unfolding readWindows
+    windows-names = only-part 4 (start place offset) (scan windows) _ (λ ws _. settled-pairs m a ws)
+
+    pub windows-completes : Completes 4 (start place offset) (readWindows m a place offset)
+    unfolding readWindows
+    windows-completes = single-completes 4 (start place offset) (scan windows) (λ ws _. handOutPairs m a ws) windows-bounded (λ ws _. settled-pairs m a ws)
+
+  pub srm-longer : (mz abundance : List ℕ)
+      → OnLongerBytes toldCount (λ s r (ys : List ℕ × List ℕ). LeftPairs (λ m a. readScan m a place offset s) mz abundance r (ys .0) (ys .1)) (λ q. q ≡ 4) (λ _ _. start place offset < 2 ^ 62)
+  srm-longer mz abundance =
+      let m = length mz in
+      let a = length abundance in
+      left-longer toldCount count-one (readScan m a place offset) (srm-prefix m a) (λ q. q ≡ 4) (λ _ _. start place offset < 2 ^ 62) (srm-names m a)
+      (one-part 4 (start place offset) (readScan m a place offset) (srm-names m a) (srm-completes m a)) length columns (mz, abundance)
+
+  pub windows-longer : (low high : List ℕ)
+      → OnLongerBytes toldCount (λ s r (ys : List ℕ × List ℕ). LeftPairs (λ l h. readWindows l h place offset s) low high r (ys .0) (ys .1)) (λ q. q ≡ 4) (λ _ _. start place offset < 2 ^ 62)
+  windows-longer low high =
+      let l = length low in
+      let h = length high in
+      left-longer toldCount count-one (readWindows l h place offset) (windows-prefix l h) (λ q. q ≡ 4) (λ _ _. start place offset < 2 ^ 62) (windows-names l h)
+      (one-part 4 (start place offset) (readWindows l h place offset) (windows-names l h) (windows-completes l h)) length columns (low, high)

@@ -1,5 +1,4 @@
 -- `flat::find_flat_peaks` meets its contract: what both attempts come to, or no peaks.
--- Assumes nothing.
 use mathlib.Core.Path.{sym, _∙_}
 use native.Mathlib.Omega.{arith}
 use denote.Ref.{now}
@@ -9,25 +8,10 @@ use borrow.Author.Needs.{needs}
 use Rattle.flat.proofs.find_flat_peaks.Statement.{statement}
 use Rattle.flat.proofs.find_flat_peaks.Tie as tie
 
-saturating-add-requires : tie.Need-saturating-add-requires
-saturating-add-requires c κs = search needs
-
 returns : tie.Need-returns
 returns c =
     let a = c .before .before .before .args in
     no-peaks (a .«data») (a .cum-end) (a .data-size) (now (a .run)) _ (c .before .saturating-add .ensures) (omega arith)
-
-judge-attempts-requires : tie.Need-judge-attempts-requires
-judge-attempts-requires c κs = search needs
-
-enum-known-place : tie.Need-enum-known-place
-enum-known-place c = search needs
-
-enum-told : tie.Need-enum-told
-enum-told c = search needs
-
-enum-told-2 : tie.Need-enum-told-2
-enum-told-2 c = search needs
 
 returns-2 : tie.Need-returns-2
 returns-2 c =
@@ -49,12 +33,12 @@ pub find-flat-peaks-spec : {M : Type 1} → statement M
 find-flat-peaks-spec =
     tie.close
     (tie.spec
-    saturating-add-requires
+    (search needs)
     returns
-    judge-attempts-requires
-    enum-known-place
-    enum-told
-    enum-told-2
+    (search needs)
+    (search needs)
+    (search needs)
+    (search needs)
     returns-2
     returns-3
     returns-4)

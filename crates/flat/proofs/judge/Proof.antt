@@ -1,5 +1,4 @@
 -- `flat::judge` meets its contract: each way out is decided by the tests that led there.
--- Assumes nothing.
 use mathlib.Core.Path.{sym, _∙_}
 use native.Mathlib.Omega.{arith}
 use denote.Ref.{now}
@@ -13,39 +12,15 @@ returns c =
     let a = c .before .before .args in
     too-few (a .end) (a .cum-end) (a .data-size) (a .subtract) (now (a .run)) (a .end) (omega arith)
 
-sub-count : tie.Need-sub-count
-sub-count c = search needs
-
-cast-count : tie.Need-cast-count
-cast-count c = search needs
-
-mul-section : tie.Need-mul-section
-mul-section c = search needs
-
 returns-2 : tie.Need-returns-2
 returns-2 c =
     let a = c .before .before .before .args in
     too-long (a .end) (a .cum-end) (a .data-size) (a .subtract) (now (a .run)) (a .end) (omega arith) (omega arith)
 
-saturating-sub-requires : tie.Need-saturating-sub-requires
-saturating-sub-requires c κs = search needs
-
-mul-if3 : tie.Need-mul-if3
-mul-if3 c = search needs
-
-remaining-requires : tie.Need-remaining-requires
-remaining-requires c κs = search needs
-
 returns-3 : tie.Need-returns-3
 returns-3 c =
     let a = c .before .before .before .before .before .before .args in
     runs-out (a .end) (a .cum-end) (a .data-size) (a .subtract) (now (a .run)) (a .end) (omega arith) (omega arith) _ (c .before .before .saturating-sub .ensures) (omega arith)
-
-u32-at-requires : tie.Need-u32-at-requires
-u32-at-requires c κs = search needs
-
-plausible-requires : tie.Need-plausible-requires
-plausible-requires c κs = search needs
 
 returns-4 : tie.Need-returns-4
 returns-4 c =
@@ -64,15 +39,15 @@ judge-spec =
     tie.close
     (tie.spec
     returns
-    sub-count
-    cast-count
-    mul-section
+    (search needs)
+    (search needs)
+    (search needs)
     returns-2
-    saturating-sub-requires
-    mul-if3
-    remaining-requires
+    (search needs)
+    (search needs)
+    (search needs)
     returns-3
-    u32-at-requires
-    plausible-requires
+    (search needs)
+    (search needs)
     returns-4
     returns-5)

@@ -1,5 +1,4 @@
 -- `flat::judge_attempts` meets its contract: the first attempt decides, or where it was passed over the second.
--- Assumes nothing.
 use mathlib.Core.Path.{refl, sym, _∙_}
 use denote.Ref.{now}
 use Rattle.flat.specs.declared.Judged.the-variants.{Accepted, PassedOver, RanOut}
@@ -7,21 +6,6 @@ use Rattle.flat.proofs.Answers.{by-both}
 use borrow.Author.Needs.{needs}
 use Rattle.flat.proofs.judge_attempts.Statement.{statement}
 use Rattle.flat.proofs.judge_attempts.Tie as tie
-
-judge-requires : tie.Need-judge-requires
-judge-requires c κs = search needs
-
-enum-known-place : tie.Need-enum-known-place
-enum-known-place c = search needs
-
-enum-told : tie.Need-enum-told
-enum-told c = search needs
-
-enum-told-2 : tie.Need-enum-told-2
-enum-told-2 c = search needs
-
-judge-requires-2 : tie.Need-judge-requires-2
-judge-requires-2 c κs = search needs
 
 returns : tie.Need-returns
 returns c =
@@ -43,11 +27,11 @@ pub judge-attempts-spec : {M : Type 1} → statement M
 judge-attempts-spec =
     tie.close
     (tie.spec
-    judge-requires
-    enum-known-place
-    enum-told
-    enum-told-2
-    judge-requires-2
+    (search needs)
+    (search needs)
+    (search needs)
+    (search needs)
+    (search needs)
     returns
     returns-2
     returns-3)

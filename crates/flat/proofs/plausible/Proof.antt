@@ -1,12 +1,8 @@
 -- `flat::plausible` meets its contract: each way through the tests says which held on it.
--- Assumes nothing.
 use Rattle.flat.proofs.Constants.{zero-is, least-is, limit-is}
 use borrow.Author.Needs.{needs}
 use Rattle.flat.proofs.plausible.Statement.{statement}
 use Rattle.flat.proofs.plausible.Tie as tie
-
-widened-requires : tie.Need-widened-requires
-widened-requires c κs = search needs
 
 returns : tie.Need-returns
 returns c =
@@ -24,4 +20,4 @@ returns-3 c =
     simp (← zero-is, ← least-is, ← limit-is, value, rw value at (c .before .if1 .left), rw value at (c .if2 .left))
 
 pub plausible-spec : {M : Type 1} → statement M
-plausible-spec = tie.close (tie.spec widened-requires returns returns-2 returns-3)
+plausible-spec = tie.close (tie.spec (search needs) returns returns-2 returns-3)

@@ -1,5 +1,4 @@
 -- `srm::count_channels` meets its contract: each way out is decided by the tests that led there.
--- Assumes nothing.
 use native.Mathlib.Nat.{mul-le-mul-left}
 use native.Mathlib.Omega.{arith}
 use denote.Ref.{now}
@@ -7,15 +6,6 @@ use Rattle.srm.proofs.Counting.{no-count, no-channels, short-table, who
 use borrow.Author.Needs.{needs}
 use Rattle.srm.proofs.count_channels.Statement.{statement}
 use Rattle.srm.proofs.count_channels.Tie as tie
-
-remaining-requires : tie.Need-remaining-requires
-remaining-requires c κs = search needs
-
-u32-at-requires : tie.Need-u32-at-requires
-u32-at-requires c κs = search needs
-
-cast-n : tie.Need-cast-n
-cast-n c = search needs
 
 returns : tie.Need-returns
 returns c =
@@ -28,12 +18,6 @@ mul-all c = omega (arith, mul-le-mul-left (c .before .u32-at .result) (c .before
 
 add-all : tie.Need-add-all
 add-all c = omega (arith, mul-le-mul-left (c .before .u32-at .result) (c .before .before .before .before .before .pre))
-
-add-remaining : tie.Need-add-remaining
-add-remaining c = search needs
-
-remaining-requires-2 : tie.Need-remaining-requires-2
-remaining-requires-2 c κs = search needs
 
 returns-2 : tie.Need-returns-2
 returns-2 c =
@@ -56,14 +40,14 @@ pub count-channels-spec : {M : Type 1} → statement M
 count-channels-spec =
     tie.close
     (tie.spec
-    remaining-requires
-    u32-at-requires
-    cast-n
+    (search needs)
+    (search needs)
+    (search needs)
     returns
     mul-all
     add-all
-    add-remaining
-    remaining-requires-2
+    (search needs)
+    (search needs)
     returns-2
     returns-3
     returns-4)

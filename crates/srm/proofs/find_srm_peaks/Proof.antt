@@ -1,10 +1,10 @@
 -- `srm::find_srm_peaks` meets its contract: the channels are counted, and the first m/z stands behind their windows.
--- Assumes nothing.
 use mathlib.Core.Path.{_≡_, sym, ap, _∙_}
 use native.Mathlib.Omega.{arith}
 use denote.Ref.{now}
 use Rattle.refusal.specs.Outcome.{ok}
-use Rattle.srm.specs.Channels.{channels, toldChannels}
+use Rattle.refusal.specs.Number.{toldCount}
+use Rattle.srm.specs.Channels.{channels}
 use Rattle.srm.proofs.Counting.{channels-there}
 use Rattle.srm.proofs.Answers.{found, find-refused}
 use borrow.Author.Needs.{needs}
@@ -13,19 +13,7 @@ use Rattle.srm.proofs.find_srm_peaks.Tie as tie
 
 -- the channels that were counted
 counted : (c : tie.After-known-told2) → ok (c .before .n .given .0 .0) ≡ channels 20 (now (c .before .before .before .before .before .before .args .run)) (c .before .before .before .before .saturating-add .result)
-counted c = sym (ap toldChannels (c .before .n .given .1)) ∙ c .before .before .before .count-channels .ensures
-
-saturating-add-requires : tie.Need-saturating-add-requires
-saturating-add-requires c κs = search needs
-
-count-channels-requires : tie.Need-count-channels-requires
-count-channels-requires c κs = search needs
-
-enum-known-r : tie.Need-enum-known-r
-enum-known-r c = search needs
-
-enum-known-n : tie.Need-enum-known-n
-enum-known-n c = search needs
+counted c = sym (ap toldCount (c .before .n .given .1)) ∙ c .before .before .before .count-channels .ensures
 
 add-t9 : tie.Need-add-t9
 add-t9 c =
@@ -45,7 +33,7 @@ add-t11 c =
 returns : tie.Need-returns
 returns c =
     let a = c .before .before .before .before .before .before .args in
-    find-refused (a .«data») (a .offset) (now (a .run)) _ (c .before .before .before .before .saturating-add .ensures) (sym (ap toldChannels (c .before .r .given .1)) ∙ c .before .before .before .count-channels .ensures)
+    find-refused (a .«data») (a .offset) (now (a .run)) _ (c .before .before .before .before .saturating-add .ensures) (sym (ap toldCount (c .before .r .given .1)) ∙ c .before .before .before .count-channels .ensures)
 
 returns-2 : tie.Need-returns-2
 returns-2 c =
@@ -56,10 +44,10 @@ pub find-srm-peaks-spec : {M : Type 1} → statement M
 find-srm-peaks-spec =
     tie.close
     (tie.spec
-    saturating-add-requires
-    count-channels-requires
-    enum-known-r
-    enum-known-n
+    (search needs)
+    (search needs)
+    (search needs)
+    (search needs)
     add-t9
     mul-t10
     add-t11

@@ -1,51 +1,33 @@
 -- `srm::hand_out_windows` meets its contract: the room is tested, and then both ends are copied.
--- Assumes nothing.
-use native.Mathlib.Omega.{arith}
-use denote.Ref.{now}
-use Rattle.srm.proofs.Room.{no-low, no-high, windows-result}
+use mathlib.Core.Path.{sym, _∙_}
+use Rattle.lists.proofs.Left.{pairs-no-room, pairs-written}
+use Rattle.srm.proofs.Room.{length-windows, low-column, high-column}
 use borrow.Author.Needs.{needs}
 use Rattle.srm.proofs.hand_out_windows.Statement.{statement}
 use Rattle.srm.proofs.hand_out_windows.Tie as tie
 
-copy-u32s-requires : tie.Need-copy-u32s-requires
-copy-u32s-requires c κs = search needs
-
-add-copy-u32s : tie.Need-add-copy-u32s
-add-copy-u32s c = search needs
-
-copy-u32s-requires-2 : tie.Need-copy-u32s-requires-2
-copy-u32s-requires-2 c κs = search needs
-
-same-length : tie.Need-same-length
-same-length c = search needs
-
-same-length-2 : tie.Need-same-length-2
-same-length-2 c = search needs
-
 returns : tie.Need-returns
 returns c =
-    let a = c .before .before .before .before .before .before .before .before .before .before .before .before .before .args in
-    windows-result (now (a .low)) (now (a .high)) (now (a .run)) (a .at) (a .n) (omega arith) (omega arith) (c .before .before .before .before .before .before .copy-u32s .ensures) (c .before .before .copy-u32s2 .ensures)
+    let t = c .before .before .before .before .before .before .before .before in
+    let room = sym (rw (t .before .before .holds .ensures) at (t .before .holds2 .ensures)) ∙ t .if1 .taken in
+    pairs-written _ (length-windows _ _ _) _ _ room
+    (low-column _ _ _ _ _ (c .before .before .before .before .before .before .copy-u32s .ensures .stands))
+    (high-column _ _ _ _ _ (c .before .before .copy-u32s2 .ensures .stands))
 
 returns-2 : tie.Need-returns-2
 returns-2 c =
-    let a = c .before .before .before .before .before .args in
-    no-high (now (a .low)) (now (a .high)) (now (a .run)) (a .at) (a .n) (omega arith) (omega arith)
-
-returns-3 : tie.Need-returns-3
-returns-3 c =
-    let a = c .before .before .before .before .args in
-    no-low (now (a .low)) (now (a .high)) (now (a .run)) (a .at) (a .n) (omega arith)
+    pairs-no-room _ (length-windows _ _ _) _ _ (sym (rw (c .before .before .holds .ensures) at (c .before .holds2 .ensures)) ∙ c .if1 .left)
 
 pub hand-out-windows-spec : {M : Type 1} → statement M
 hand-out-windows-spec =
     tie.close
     (tie.spec
-    copy-u32s-requires
-    add-copy-u32s
-    copy-u32s-requires-2
-    same-length
-    same-length-2
+    (search needs)
+    (search needs)
+    (search needs)
+    (search needs)
+    (search needs)
+    (search needs)
+    (search needs)
     returns
-    returns-2
-    returns-3)
+    returns-2)
