@@ -1,5 +1,4 @@
 -- The code's constants, which it has by their patterns.
--- Assumes nothing.
 use mathlib.Core.Path.{_≡_, refl}
 use mathlib.Core.Bool.{false}
 use lib.IntN.{negsuc}

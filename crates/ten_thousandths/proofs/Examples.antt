@@ -1,5 +1,4 @@
 -- Document 01's worked example, and both ends of what is listed: antt computes each one.
--- Assumes nothing.
 use mathlib.Core.Path.{_≡_, refl}
 use mathlib.Core.Bool.{true, false}
 use mathlib.Core.List.{[]}

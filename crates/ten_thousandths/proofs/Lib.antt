@@ -1,4 +1,3 @@
 pub mod Constants
 pub mod Scaling
-pub mod Told
 pub mod Examples

@@ -1,6 +1,5 @@
 -- Of an f64 from 2 ^ -15 to 50,000, its pattern's digits times 625, shifted, are twice its ten-thousandths; below 2 ^ -15
 -- its ten-thousandths are 0.
--- Assumes nothing.
 use mathlib.Core.Path.{_≡_, refl, sym, ap, _∙_, subst}
 use mathlib.Core.Bool.{Bool, true, false, not, _&&_, _||_, cond}
 use Prim.Native.Nat.{ℕ, _+_, _-_, _*_, _/_, _%_, _^_, _≤_, _<_}

@@ -7,9 +7,6 @@ use lib.IntN.{pos}
 use lib.Ieee.{Float, fin, binary64, ofInt, le}
 use lib.Ieee.Positive.{num, den}
 use Rattle.refusal.specs.Outcome.{Outcome, ok, refused}
-use Rattle.refusal.specs.Number.{toldRefusal}
-use Rattle.ten_thousandths.specs.declared.TenThousandthsAnswer.{TenThousandthsAnswer}
-use Rattle.ten_thousandths.specs.declared.TenThousandthsAnswer.the-variants.{Listed, Refused}
 
 -- 0.0
 abbrev pub zeroF : Float
@@ -30,8 +27,3 @@ scaled x = nearestWhole (num x * 10000) (den x)
 -- refusal 9 for NaN, negative, above 50,000. -0 is not below 0.0
 unfoldable pub tenThousandths : Float → Outcome ℕ
 tenThousandths x = cond (le zeroF x && le x limit) (ok (scaled x)) (refused 9 [])
-
--- an answer in document 01's terms
-abbrev pub told : TenThousandthsAnswer → Outcome ℕ
-told (Listed n) = ok n
-told (Refused r) = toldRefusal r

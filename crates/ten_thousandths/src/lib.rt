@@ -2,13 +2,10 @@
 ghost use mathlib.Core.Path.{_≡_};
 ghost use lib.Dec.{T};
 ghost use lib.Ieee.{le};
-ghost use Rattle.ten_thousandths.specs.TenThousandths.{zeroF, limit, scaled, tenThousandths, told};
+ghost use Rattle.refusal.specs.Number.{toldCount};
+ghost use Rattle.ten_thousandths.specs.TenThousandths.{zeroF, limit, scaled, tenThousandths};
+use refusal::CountAnswer;
 use refusal::Refusal;
-
-pub enum TenThousandthsAnswer {
-    Listed(u64),
-    Refused(Refusal),
-}
 
 // 10000 is 625 * 2^4, and the digits times 625 fit a `u64`. Below 2^-15 the answer is 0.
 fn scaled(x: f64) -> u64
@@ -27,12 +24,12 @@ fn scaled(x: f64) -> u64
 }
 
 // -0 is 0. A NaN fails both tests.
-pub fn ten_thousandths(x: f64) -> TenThousandthsAnswer
-    ensures { λ r. ⌜ told r ≡ tenThousandths x ⌝ }
+pub fn ten_thousandths(x: f64) -> CountAnswer
+    ensures { λ r. ⌜ toldCount r ≡ tenThousandths x ⌝ }
 {
     if 0.0 <= x && x <= 50000.0 {
-        TenThousandthsAnswer::Listed(scaled(x))
+        CountAnswer::Count(scaled(x))
     } else {
-        TenThousandthsAnswer::Refused(Refusal::MassOutOfRange)
+        CountAnswer::Refused(Refusal::MassOutOfRange)
     }
 }

@@ -1,5 +1,4 @@
 -- `ten_thousandths::scaled` meets its contract.
--- Assumes nothing.
 use mathlib.Core.Path.{sym, ap, _∙_, subst}
 use mathlib.Core.Bool.{not}
 use Prim.Native.Nat.{ℕ, _+_, _/_, _^_, _<_}

@@ -1,5 +1,4 @@
 -- `ten_thousandths::ten_thousandths` meets its contract.
--- Assumes nothing.
 use mathlib.Core.Path.{sym, ap, _∙_, subst}
 use mathlib.Core.Logic.{⊎-elim}
 use lib.Dec.{T}
