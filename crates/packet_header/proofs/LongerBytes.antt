@@ -1,16 +1,18 @@
 -- Demand 3 for a packet's header, and the sizes in it.
--- Assumes nothing.
+use mathlib.Core.Path.{_≡_}
 use Prim.Native.Nat.{ℕ, _^_, _-_, _<_}
 use lib.Dec.{lit≤}
 use Rattle.refusal.specs.Outcome.{ok}
 use Rattle.parser.specs.Call.{single}
-use Rattle.parser.specs.LongerBytes.{PrefixProperty, Completes}
+use Rattle.parser.specs.LongerBytes.{OnLongerBytes, PrefixProperty, Names, Completes}
 use Rattle.parser.proofs.Completion.{Bounded, bounded-sized, Yields, yields-word}
 use Rattle.parser.proofs.Asks.{Asks, Any, asks-sized, asks-known}
-use Rattle.parser.proofs.Calls.{prefix-property, single-completes}
-use Rattle.packet_header.specs.Header.{header, readHeader}
+use Rattle.parser.proofs.Calls.{prefix-property, only-part, single-completes}
+use Rattle.parser.proofs.OnLongerBytes.{one-part, plain-longer}
+use Rattle.packet_header.specs.Header.{header, readHeader, told}
 use Rattle.packet_header.specs.declared.PacketHeader.{PacketHeader}
 use Rattle.packet_header.proofs.Size.{header-sized}
+use Rattle.packet_header.proofs.Told.{header-told-one}
 
 pub header-bounded : Bounded (2 ^ 62) (2 ^ 61) header
 header-bounded = bounded-sized (2 ^ 62) 40 (2 ^ 61) header (lit≤ tt) header-sized
@@ -22,6 +24,15 @@ header-prefix at = prefix-property (single 4 at header (λ h _. ok h))
 pub header-completes : (at : ℕ) → Completes 4 at (readHeader at)
 unfolding readHeader
 header-completes at = single-completes 4 at header (λ h _. ok h) header-bounded (λ _ _. tt)
+
+pub header-names : (at : ℕ) → Names (λ q. q ≡ 4) (readHeader at)
+unfolding readHeader
+header-names at = only-part 4 at header (λ h _. ok h) (λ _ _. tt)
+
+pub header-longer : (at : ℕ) → OnLongerBytes told (λ s r (_ : Unit {0}). told r ≡ readHeader at s) (λ q. q ≡ 4) (λ _ _. at < 2 ^ 62)
+header-longer at =
+    plain-longer told header-told-one (readHeader at) (header-prefix at) (λ q. q ≡ 4) (λ _ _. at < 2 ^ 62) (header-names at)
+    (one-part 4 at (readHeader at) (header-names at) (header-completes at))
 
 -- sizes that were read are below 2^32
 pub record Sizable (h : PacketHeader) : Type 0 where

@@ -1,5 +1,4 @@
 -- A chunk is two tests and its values, by their places; the place behind a list of chunks is found chunk by chunk.
--- Assumes nothing.
 use mathlib.Core.Path.{_≡_, refl, ap, sym, _∙_}
 use Prim.Native.Nat.{ℕ, _+_, _*_, _≤_, _<_}
 use native.Mathlib.Nat.{add-zero, zero-add}

@@ -1,19 +1,24 @@
 -- What a profile asks for behind the end of the bytes: zeros make every further chunk empty.
--- Assumes nothing.
+use mathlib.Core.Path.{_≡_, sym, _∙_}
 use Prim.Native.Nat.{ℕ, _+_, _*_, _-_, _^_, _≤_, _<_}
 use native.Mathlib.Omega.{arith}
 use mathlib.Core.Bool.{Bool, true, false}
+use mathlib.Core.List.{List, _++_}
 use lib.Dec.{lit≤}
 use Rattle.refusal.specs.Outcome.{ok}
-use Rattle.parser.specs.Parser.{repeat, _>>=_}
+use Rattle.parser.specs.Parser.{parse, repeat, _>>=_}
 use Rattle.parser.specs.Call.{single}
-use Rattle.parser.specs.LongerBytes.{PrefixProperty, Completes}
+use Rattle.parser.specs.LongerBytes.{OnLongerBytes, PrefixProperty, Names, Completes}
+use Rattle.parser.proofs.Prefix.{prefix-parsed}
 use Rattle.parser.proofs.Completion.{extent, bounded-more, Yields, yields-word}
-use Rattle.parser.proofs.Calls.{prefix-property, single-completes}
+use Rattle.parser.proofs.Calls.{prefix-property, only-part, single-completes}
+use Rattle.parser.proofs.OnLongerBytes.{one-part, plain-longer}
 use Rattle.parser.proofs.Asks.{Asks, Any, asks-sized, asks-known, asks-more, asks-done, asks-ahead, asks-repeat, asks-bind}
-use Rattle.profile.specs.Profile.{isFudged, Head, head, headSize, values, chunk, Axis, axis, chunks, profile, located, readProfile}
+use Rattle.profile.specs.Profile.{isFudged, Head, head, headSize, values, chunk, Axis, axis, chunks, profile, located, readProfile, told}
+use Rattle.profile.specs.declared.Profile.{Profile}
 use Rattle.profile.proofs.Chunks.{whole, rest, head-sized, values-sized}
-use Rattle.profile.proofs.Answers.{axis-sized, paired}
+use Rattle.profile.proofs.Told.{profile-told-one}
+use Rattle.profile.proofs.Answers.{axis-sized, paired, profiled}
 use Rattle.profile.proofs.Answers.{rest as behind}
 
 -- counts that were read are below 2^32
@@ -74,12 +79,29 @@ module _ (far : ℕ) where
       asks-bind far 24 (2 ^ 37) PeakCounted Any (behind layout) (behind-asks layout) axis (asks-known far 24 axis Any PeakCounted (asks-sized far 24 axis axis-sized) axis-counted)
 
 -- demand 3
-pub profile-prefix : (layout at : ℕ) → PrefixProperty (readProfile layout at)
-unfolding readProfile
-profile-prefix layout at = prefix-property (single 4 at (profile layout) (λ p next. ok (located layout at p, next)))
+module _ (layout at : ℕ) where
+  pub profile-prefix : PrefixProperty (readProfile layout at)
+  unfolding readProfile
+  profile-prefix = prefix-property (single 4 at (profile layout) (λ p next. ok (located layout at p, next)))
 
-pub profile-completes : (layout at : ℕ) → Completes 4 at (readProfile layout at)
-unfolding readProfile
-profile-completes layout at =
-    single-completes 4 at (profile layout) (λ p next. ok (located layout at p, next))
-    (bounded-more (2 ^ 62) (24 + 2 ^ 37) (2 ^ 61) (profile layout) (lit≤ tt) (profile-asks (2 ^ 62) layout .bounded)) (λ _ _. tt)
+  pub profile-names : Names (λ q. q ≡ 4) (readProfile layout at)
+  unfolding readProfile
+  profile-names = only-part 4 at (profile layout) (λ p next. ok (located layout at p, next)) (λ _ _. tt)
+
+  pub profile-completes : Completes 4 at (readProfile layout at)
+  unfolding readProfile
+  profile-completes =
+      single-completes 4 at (profile layout) (λ p next. ok (located layout at p, next))
+      (bounded-more (2 ^ 62) (24 + 2 ^ 37) (2 ^ 61) (profile layout) (lit≤ tt) (profile-asks (2 ^ 62) layout .bounded)) (λ _ _. tt)
+
+  pub profile-longer : OnLongerBytes told (λ s r (_ : Unit {0}). told r ≡ readProfile layout at s) (λ q. q ≡ 4) (λ _ _. at < 2 ^ 62)
+  profile-longer =
+      plain-longer told profile-told-one (readProfile layout at) profile-prefix (λ q. q ≡ 4) (λ _ _. at < 2 ^ 62) profile-names
+      (one-part 4 at (readProfile layout at) profile-names profile-completes)
+
+  -- the chunks of a profile that was read on s are the same on longer bytes
+  pub same-chunks : (s t : List ℕ) {v : Profile} {next : ℕ} → ok (v, next) ≡ readProfile layout at s
+      → parse (repeat (v .«peak_count») (chunk (v .fudged))) (s ++ t) (v .«chunks_at») ≡ parse (repeat (v .«peak_count») (chunk (v .fudged))) s (v .«chunks_at»)
+  same-chunks s t {v} e =
+      let c = profiled layout s at e .chunked in
+      prefix-parsed (repeat (v .«peak_count») (chunk (v .fudged))) s t (v .«chunks_at») c ∙ sym c

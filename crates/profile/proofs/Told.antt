@@ -1,5 +1,4 @@
 -- A profile's answer is known by what it tells: a promise that is stated through `told` leaves one answer.
--- Assumes nothing.
 use mathlib.Core.Path.{_≡_, ap}
 use Prim.Native.Nat.{ℕ}
 use Rattle.refusal.proofs.Told.{refusal-one}

@@ -69,7 +69,7 @@ pub fn fudge_at(run: &[u8], at: u64, fudged: bool) -> u32
     }
 }
 
-// Each chunk passed is there, so a stored count of 2^32 - 1 costs no more turns than the run has chunks.
+// Each chunk that is passed is there, so the loop ends with the run, whatever count is stored.
 fn judge_chunks(run: &[u8], start: u64, fudged: bool, count: u32) -> Judged
     ensures { λ r. ⌜ r ≡ judged (parse (repeat count (chunk fudged)) (now (run .entry)) start) ⌝ }
 {

@@ -1,6 +1,5 @@
 -- `profile::judge_chunks` meets its contract: a turn passes one chunk and counts its values (`Tallied`). Four times the
 -- values are at most the place, so their number fits.
--- Assumes nothing.
 use mathlib.Core.Path.{_≡_, sym}
 use Prim.Native.Nat.{_*_, _-_, _≤_}
 use native.Mathlib.Omega.{arith}
@@ -18,16 +17,10 @@ Inv-loop run start fudged count head at₀ points₀ i₀ at points i = (i ≤ c
 abbrev μ-loop : tie.MeasureT-loop
 μ-loop run start fudged count head at₀ points₀ i₀ at points i = count - i
 
-head-size-requires : tie.Need-head-size-requires Inv-loop μ-loop
-head-size-requires c κs = search needs
-
 loop-holds : tie.Need-loop-holds Inv-loop μ-loop
 loop-holds c =
     let a = c .before .before .args in
     (search needs, search needs, tallied-none pointsOf (chunk (a .fudged)) (now (a .run)) (a .start) (a .count))
-
-remaining-requires : tie.Need-remaining-requires Inv-loop μ-loop
-remaining-requires c κs = search needs
 
 returns : tie.Need-returns Inv-loop μ-loop
 returns c =
@@ -35,24 +28,6 @@ returns c =
     let l = c .before .before .before .loop in
     let s = now (a .run) in
     sym (judge-short (a .fudged) (a .count) s (a .start) (l .i) (l .at) (l .points) (omega arith) (l .inv .2) (chunk-short-head (a .fudged) s (l .at) (omega (arith, c .before .before .before .before .head-size .ensures .0))))
-
-add-u32-at : tie.Need-add-u32-at Inv-loop μ-loop
-add-u32-at c = search needs
-
-u32-at-requires : tie.Need-u32-at-requires Inv-loop μ-loop
-u32-at-requires c κs = search needs
-
-cast-n : tie.Need-cast-n Inv-loop μ-loop
-cast-n c = search needs
-
-add-remaining : tie.Need-add-remaining Inv-loop μ-loop
-add-remaining c = search needs
-
-remaining-requires-2 : tie.Need-remaining-requires-2 Inv-loop μ-loop
-remaining-requires-2 c κs = search needs
-
-mul-if2 : tie.Need-mul-if2 Inv-loop μ-loop
-mul-if2 c = search needs
 
 returns-2 : tie.Need-returns-2 Inv-loop μ-loop
 returns-2 c =
@@ -62,24 +37,6 @@ returns-2 c =
     let z = c .before .before .before .before .before .before .before .head-size .ensures .0 in
     let out = chunk-short (a .fudged) s (l .at) (c .before .before .u32-at .result) (c .before .before .u32-at .ensures) (omega (arith, z)) (rw (← z) (omega arith)) in
     sym (judge-short (a .fudged) (a .count) s (a .start) (l .i) (l .at) (l .points) (omega (arith, c .before .before .before .before .before .loop-test .taken)) (l .inv .2) out)
-
-add-points : tie.Need-add-points Inv-loop μ-loop
-add-points c = search needs
-
-add-at : tie.Need-add-at Inv-loop μ-loop
-add-at c = search needs
-
-mul-at : tie.Need-mul-at Inv-loop μ-loop
-mul-at c = search needs
-
-add-at-2 : tie.Need-add-at-2 Inv-loop μ-loop
-add-at-2 c = search needs
-
-add-i : tie.Need-add-i Inv-loop μ-loop
-add-i c = search needs
-
-loop-less : tie.Need-loop-less Inv-loop μ-loop
-loop-less c = search needs
 
 loop-again : tie.Need-loop-again Inv-loop μ-loop
 loop-again c =
@@ -103,22 +60,22 @@ judge-chunks-spec =
     (tie.spec
     Inv-loop
     μ-loop
-    head-size-requires
+    (search needs)
     loop-holds
-    remaining-requires
+    (search needs)
     returns
-    add-u32-at
-    u32-at-requires
-    cast-n
-    add-remaining
-    remaining-requires-2
-    mul-if2
+    (search needs)
+    (search needs)
+    (search needs)
+    (search needs)
+    (search needs)
+    (search needs)
     returns-2
-    add-points
-    add-at
-    mul-at
-    add-at-2
-    add-i
-    loop-less
+    (search needs)
+    (search needs)
+    (search needs)
+    (search needs)
+    (search needs)
+    (search needs)
     loop-again
     returns-3)
