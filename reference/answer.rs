@@ -35,7 +35,9 @@ pub fn lent64(length: usize) -> Vec<u64> {
         .collect()
 }
 
-/// The bits of a float that arithmetic, narrowing or widening made: every NaN counts as one value.
+/// The bits of a float that arithmetic, narrowing or widening made: every NaN counts as one value. Floats of the pairs that a
+/// scan hands out go through here too, also one that was only read (an f64 mass of a packet, a frequency without coefficients):
+/// document 01 names `f64` for them, and the decoder's `f64` has one NaN.
 pub fn made_bits32(value: f32) -> u32 {
     if value.is_nan() {
         0x7fc0_0000

@@ -1,8 +1,8 @@
 // The text of answers. It is collected in `out`, which holds `n` bytes of it: a function that adds to it answers how
 // many it holds then.
 use libc::STDOUT_FILENO;
+use refusal::CountAnswer;
 use refusal::Refusal;
-use text::TextAnswer;
 
 // Writes out what is held. There is nobody to tell if that fails.
 pub(crate) fn flush(out: &[u8], n: usize) {
@@ -119,6 +119,14 @@ pub(crate) fn refused(out: &mut [u8], n: usize, refusal: Refusal) -> usize {
     }
 }
 
+// A count or a place.
+pub(crate) fn count(out: &mut [u8], n: usize, answer: CountAnswer) -> usize {
+    match answer {
+        CountAnswer::Count(value) => ok_number(out, n, value),
+        CountAnswer::Refused(refusal) => refused(out, n, refusal),
+    }
+}
+
 // A field of bytes, as in a request.
 pub(crate) fn bytes(out: &mut [u8], n: usize, run: &[u8]) -> usize {
     if run.len() == 0 {
@@ -177,17 +185,6 @@ pub(crate) fn slice64(out: &mut [u8], n: usize, lent: &[u64]) -> usize {
     n
 }
 
-// A lent slice of f32 numbers after the call.
-pub(crate) fn slice_f32(out: &mut [u8], n: usize, lent: &[f32]) -> usize {
-    let mut n = put(out, n, b" |");
-    let mut i: usize = 0;
-    while i < lent.len() {
-        n = float32(out, n, lent[i]);
-        i = i + 1;
-    }
-    n
-}
-
 // A lent slice of f64 numbers after the call.
 pub(crate) fn slice_f64(out: &mut [u8], n: usize, lent: &[f64]) -> usize {
     let mut n = put(out, n, b" |");
@@ -200,21 +197,21 @@ pub(crate) fn slice_f64(out: &mut [u8], n: usize, lent: &[f64]) -> usize {
 }
 
 // How much of a name was written; the empty name stands for the Rust's `None`.
-fn written(out: &mut [u8], n: usize, name: TextAnswer) -> usize {
+fn written(out: &mut [u8], n: usize, name: CountAnswer) -> usize {
     match name {
-        TextAnswer::Written(count) => {
+        CountAnswer::Count(count) => {
             if count == 0 {
                 none(out, n)
             } else {
                 ok_number(out, n, count)
             }
         }
-        TextAnswer::Refused(refusal) => refused(out, n, refusal),
+        CountAnswer::Refused(refusal) => refused(out, n, refusal),
     }
 }
 
 // What a name's function answered, and the slice that it was lent.
-pub(crate) fn name(out: &mut [u8], n: usize, name: TextAnswer, lent: &[u8]) -> usize {
+pub(crate) fn name(out: &mut [u8], n: usize, name: CountAnswer, lent: &[u8]) -> usize {
     let n = written(out, n, name);
     slice8(out, n, lent)
 }

@@ -4,6 +4,7 @@ mod answer;
 mod names;
 mod packets;
 mod peak_labels;
+mod places;
 mod preambles;
 mod profile_pairs;
 mod records;

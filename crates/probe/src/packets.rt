@@ -9,7 +9,6 @@ use packet_header::HeaderAnswer;
 use packet_header::PacketHeader;
 use packet_skipping::read_skip_profile;
 use peak_list::read_peaks_only;
-use peaks::PeaksAnswer;
 use profile::Profile;
 use scan_packet::PacketAnswer;
 use scan_packet::PacketProfile;
@@ -22,7 +21,7 @@ fn put_sizes(out: &mut [u8], n: usize, h: PacketHeader) -> usize {
     answer::number(out, n, h.layout as u64)
 }
 
-fn put_header(out: &mut [u8], n: usize, h: PacketHeader) -> usize {
+pub(crate) fn put_header(out: &mut [u8], n: usize, h: PacketHeader) -> usize {
     let n = put_sizes(out, n, h);
     let n = answer::number(out, n, h.descriptor_list_size as u64);
     let n = answer::number(out, n, h.unknown_stream_size as u64);
@@ -50,14 +49,6 @@ pub(crate) fn packet_header(
     }
 }
 
-// How many peaks there are.
-pub(crate) fn put_count(out: &mut [u8], n: usize, answer: PeaksAnswer) -> usize {
-    match answer {
-        PeaksAnswer::Peaks(count) => answer::ok_number(out, n, count),
-        PeaksAnswer::Refused(refusal) => answer::refused(out, n, refusal),
-    }
-}
-
 // The peaks of the packet at a place, and the slices that are lent for them.
 fn put_peaks(
     run: &[u8],
@@ -70,7 +61,7 @@ fn put_peaks(
     request::fill64(masses);
     request::fill32(abundances);
     let answer = read_peaks_only(run, place, masses, abundances);
-    let n = put_count(out, n, answer);
+    let n = answer::count(out, n, answer);
     let n = answer::slice64(out, n, masses);
     answer::slice32(out, n, abundances)
 }

@@ -6,7 +6,6 @@ use crate::request::LENT;
 use crate::request::Lengths;
 use crate::request::U64;
 use narrow::narrowed;
-use noise::LabelsAnswer;
 use noise::NoiseAnswer;
 use noise::label_peaks;
 use noise::noise_at;
@@ -25,8 +24,8 @@ fn put_noise(out: &mut [u8], n: usize, answer: NoiseAnswer) -> usize {
         NoiseAnswer::None => answer::none(out, n),
         NoiseAnswer::Values(noise, baseline) => {
             let n = answer::ok(out, n);
-            let n = answer::float32(out, n, noise);
-            answer::float32(out, n, baseline)
+            let n = answer::bits32(out, n, noise);
+            answer::bits32(out, n, baseline)
         }
     }
 }
@@ -41,44 +40,37 @@ pub(crate) fn noise(line: &[u8], at: usize, data: &mut [u8], out: &mut [u8], n: 
     put_noise(out, n, noise_at(floats::f64_of_bits(mz.value), nodes))
 }
 
-fn put_count(out: &mut [u8], n: usize, answer: LabelsAnswer) -> usize {
-    match answer {
-        LabelsAnswer::Written(count) => answer::ok_number(out, n, count),
-        LabelsAnswer::Refused(refusal) => answer::refused(out, n, refusal),
-    }
-}
-
 // The slices lent for labels.
-fn fill_labels(flags: &mut [u8], noises: &mut [f32], baselines: &mut [f32]) {
+fn fill_labels(flags: &mut [u8], noises: &mut [u32], baselines: &mut [u32]) {
     request::fill(flags);
-    request::fill_f32(noises);
-    request::fill_f32(baselines);
+    request::fill32(noises);
+    request::fill32(baselines);
 }
 
-fn put_slices(out: &mut [u8], n: usize, flags: &[u8], noises: &[f32], baselines: &[f32]) -> usize {
+fn put_slices(out: &mut [u8], n: usize, flags: &[u8], noises: &[u32], baselines: &[u32]) -> usize {
     let n = answer::slice8(out, n, flags);
-    let n = answer::slice_f32(out, n, noises);
-    answer::slice_f32(out, n, baselines)
+    let n = answer::slice32(out, n, noises);
+    answer::slice32(out, n, baselines)
 }
 
 // A label for each mass, and the slices that are lent for them.
 fn put_labels(
-    masses: &[f64],
+    masses: &[u64],
     nodes: &[u8],
     flags: &mut [u8],
-    noises: &mut [f32],
-    baselines: &mut [f32],
+    noises: &mut [u32],
+    baselines: &mut [u32],
     out: &mut [u8],
     n: usize,
 ) -> usize {
     fill_labels(flags, noises, baselines);
     let answer = label_peaks(masses, nodes, flags, noises, baselines);
-    let n = put_count(out, n, answer);
+    let n = answer::count(out, n, answer);
     put_slices(out, n, flags, noises, baselines)
 }
 
 fn lend_labels(
-    masses: &[f64],
+    masses: &[u64],
     nodes: &[u8],
     f: usize,
     lent: Lengths,
@@ -88,8 +80,8 @@ fn lend_labels(
     requires { ⌜ (f ≤ 64) × (lent .first ≤ 64) × (lent .second ≤ 64) ⌝ }
 {
     let mut flags = [0u8; 64];
-    let mut noises = [0.0f32; 64];
-    let mut baselines = [0.0f32; 64];
+    let mut noises = [0u32; 64];
+    let mut baselines = [0u32; 64];
     let m = lent.first;
     let b = lent.second;
     put_labels(
@@ -104,8 +96,8 @@ fn lend_labels(
 }
 
 pub(crate) fn labels(line: &[u8], at: usize, data: &mut [u8], out: &mut [u8], n: usize) -> usize {
-    let mut masses = [0.0f64; 64];
-    let list = request::f64s(line, at, data, &mut masses);
+    let mut masses = [0u64; 64];
+    let list = request::u64s(line, at, data, &mut masses);
     let f = request::number(line, list.end, LENT);
     let lent = request::lent_lengths(line, f.end);
     let count = request::bytes(line, lent.end, data);

@@ -5,10 +5,10 @@ use crate::request;
 use crate::request::Lengths;
 use crate::request::U32;
 use crate::request::U64;
-use pairs::PairsAnswer;
 use pairs::to_mz_intensity;
 use profile::Profile;
 use profile::ProfileAnswer;
+use refusal::CountAnswer;
 
 pub(crate) fn freq_to_mz(
     line: &[u8],
@@ -37,17 +37,10 @@ fn read(
     coefficients: &[u64],
     masses: &mut [f64],
     intensities: &mut [f64],
-) -> PairsAnswer {
+) -> CountAnswer {
     match Profile::read(run, place, layout) {
         ProfileAnswer::Profile(p, _) => to_mz_intensity(run, p, coefficients, masses, intensities),
-        ProfileAnswer::Refused(refusal) => PairsAnswer::Refused(refusal),
-    }
-}
-
-fn put_count(out: &mut [u8], n: usize, answer: PairsAnswer) -> usize {
-    match answer {
-        PairsAnswer::Pairs(count) => answer::ok_number(out, n, count),
-        PairsAnswer::Refused(refusal) => answer::refused(out, n, refusal),
+        ProfileAnswer::Refused(refusal) => CountAnswer::Refused(refusal),
     }
 }
 
@@ -65,7 +58,7 @@ fn put_pairs(
     request::fill_f64(masses);
     request::fill_f64(intensities);
     let answer = read(run, place, layout, coefficients, masses, intensities);
-    let n = put_count(out, n, answer);
+    let n = answer::count(out, n, answer);
     let n = answer::slice_f64(out, n, masses);
     answer::slice_f64(out, n, intensities)
 }

@@ -1,12 +1,10 @@
 // Flat and SRM records: the crates `flat` and `srm`.
 use crate::answer;
-use crate::packets;
 use crate::request;
 use crate::request::U32;
 use crate::request::U64;
 use flat::read_flat_peaks;
-use peaks::PeaksAnswer;
-use srm::WindowsAnswer;
+use refusal::CountAnswer;
 use srm::read_scan_srm_v66;
 use srm::read_scan_srm_v66_windows;
 
@@ -39,7 +37,7 @@ fn read(
     places: Places,
     masses: &mut [u64],
     abundances: &mut [u32],
-) -> PeaksAnswer {
+) -> CountAnswer {
     match reading {
         Reading::Flat(size) => {
             read_flat_peaks(run, places.data, places.offset, size, masses, abundances)
@@ -61,7 +59,7 @@ fn put_peaks(
     request::fill64(masses);
     request::fill32(abundances);
     let answer = read(reading, run, places, masses, abundances);
-    let n = packets::put_count(out, n, answer);
+    let n = answer::count(out, n, answer);
     let n = answer::slice64(out, n, masses);
     answer::slice32(out, n, abundances)
 }
@@ -109,13 +107,6 @@ pub(crate) fn srm(line: &[u8], at: usize, data: &mut [u8], out: &mut [u8], n: us
     peaks_by(Reading::Srm, places, line, places.end, data, out, n)
 }
 
-fn put_window_count(out: &mut [u8], n: usize, answer: WindowsAnswer) -> usize {
-    match answer {
-        WindowsAnswer::Windows(count) => answer::ok_number(out, n, count),
-        WindowsAnswer::Refused(refusal) => answer::refused(out, n, refusal),
-    }
-}
-
 // The windows of a record, and the slices that are lent for them.
 fn put_windows(
     run: &[u8],
@@ -128,7 +119,7 @@ fn put_windows(
     request::fill32(lows);
     request::fill32(highs);
     let answer = read_scan_srm_v66_windows(run, places.data, places.offset, lows, highs);
-    let n = put_window_count(out, n, answer);
+    let n = answer::count(out, n, answer);
     let n = answer::slice32(out, n, lows);
     answer::slice32(out, n, highs)
 }

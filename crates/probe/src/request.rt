@@ -168,23 +168,6 @@ pub(crate) fn u64s(line: &[u8], at: usize, data: &mut [u8], out: &mut [u64]) -> 
     list
 }
 
-fn copy_f64s(list: &[u8], out: &mut [f64]) {
-    let mut place: u64 = 0;
-    let mut i: usize = 0;
-    while i < out.len() {
-        out[i] = floats::f64_of_bits(reader::u64_at(list, place));
-        place = reader::saturating_add(place, 8);
-        i = i + 1;
-    }
-}
-
-// The same of floats.
-pub(crate) fn f64s(line: &[u8], at: usize, data: &mut [u8], out: &mut [f64]) -> Field {
-    let list = list64(line, at, data);
-    copy_f64s(data, out);
-    list
-}
-
 // The field that follows at `at` as a list of 16-bit numbers, whose bytes go to the front of `data`: how many there are.
 fn list16(line: &[u8], at: usize, data: &mut [u8]) -> Field {
     let count = bytes(line, at, data);
@@ -297,15 +280,6 @@ pub(crate) fn fill64(lent: &mut [u64]) {
     let mut i: usize = 0;
     while i < lent.len() {
         lent[i] = 0xa5a5_a5a5_0000_0000 + (i as u64) % 0x1_0000_0000;
-        i = i + 1;
-    }
-}
-
-// What a lent slice of f32 numbers holds before the call.
-pub(crate) fn fill_f32(lent: &mut [f32]) {
-    let mut i: usize = 0;
-    while i < lent.len() {
-        lent[i] = floats::f32_of_bits((0xa5a5_0000 + i % 0x1_0000) as u32);
         i = i + 1;
     }
 }

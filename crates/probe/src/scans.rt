@@ -16,7 +16,7 @@ fn format_number(format: ScanDataFormat) -> u64 {
     }
 }
 
-fn format_of(number: u64) -> ScanDataFormat {
+pub(crate) fn format_of(number: u64) -> ScanDataFormat {
     match number {
         0 => ScanDataFormat::PacketHeader,
         1 => ScanDataFormat::FlatV63,

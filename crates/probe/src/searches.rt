@@ -6,7 +6,6 @@ use crate::request::LENT;
 use crate::request::Lengths;
 use crate::request::U16;
 use crate::request::U64;
-use channels::ChannelsAnswer;
 use channels::flatv66_event_channels;
 use transition::EventTransitionAnswer;
 use transition::TransitionAnswer;
@@ -65,13 +64,6 @@ pub(crate) fn event_transition(
     put_event_transition(out, n, answer)
 }
 
-fn put_count(out: &mut [u8], n: usize, answer: ChannelsAnswer) -> usize {
-    match answer {
-        ChannelsAnswer::Channels(count) => answer::ok_number(out, n, count),
-        ChannelsAnswer::Refused(refusal) => answer::refused(out, n, refusal),
-    }
-}
-
 // The slices lent for channels.
 fn fill_channels(events: &mut [u16], q1s: &mut [u64], energies: &mut [u64]) {
     request::fill16(events);
@@ -97,7 +89,7 @@ fn put_channels(
 ) -> usize {
     fill_channels(channel_events, q1s, energies);
     let answer = flatv66_event_channels(run, events, channel_events, q1s, energies);
-    let n = put_count(out, n, answer);
+    let n = answer::count(out, n, answer);
     put_slices(out, n, channel_events, q1s, energies)
 }
 

@@ -79,3 +79,12 @@ pub(crate) fn float32(line: &[u8], at: usize, out: &mut [u8], n: usize) -> usize
     let n = answer::bits32(out, n, bits_again32(bits));
     answer::bits64(out, n, floats::bits_of_f64(floats::widened(bits)))
 }
+
+pub(crate) fn ten_thousandths(line: &[u8], at: usize, out: &mut [u8], n: usize) -> usize {
+    let bits = request::number(line, at, U64);
+    if bits.end != line.len() {
+        return answer::bad(out, n);
+    }
+    let mz = floats::f64_of_bits(bits.value);
+    answer::count(out, n, ten_thousandths::ten_thousandths(mz))
+}

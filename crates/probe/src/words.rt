@@ -3,6 +3,7 @@ use crate::answer;
 use crate::names;
 use crate::packets;
 use crate::peak_labels;
+use crate::places;
 use crate::preambles;
 use crate::profile_pairs;
 use crate::records;
@@ -23,6 +24,12 @@ pub(crate) fn answer_request(line: &[u8], data: &mut [u8], out: &mut [u8], n: us
     }
     if check::same(word, b"f32") {
         return values::float32(line, at, out, n);
+    }
+    if check::same(word, b"ten_thousandths") {
+        return values::ten_thousandths(line, at, out, n);
+    }
+    if check::same(word, b"counted_list") {
+        return values::counted_list(line, at, data, out, n);
     }
     of_scans(word, line, at, data, out, n)
 }
@@ -113,6 +120,12 @@ fn of_labels(
     if check::same(word, b"labels") {
         return peak_labels::labels(line, at, data, out, n);
     }
+    if check::same(word, b"packet_noise") {
+        return peak_labels::packet_noise(line, at, data, out, n);
+    }
+    if check::same(word, b"packet_labels") {
+        return peak_labels::packet_labels(line, at, data, out, n);
+    }
     of_records(word, line, at, data, out, n)
 }
 
@@ -186,6 +199,52 @@ fn of_trays(
     }
     if check::same(word, b"scan_from") {
         return trays::scan_from(line, at, data, out, n);
+    }
+    of_event_places(word, line, at, data, out, n)
+}
+
+fn of_event_places(
+    word: &[u8],
+    line: &[u8],
+    at: usize,
+    data: &mut [u8],
+    out: &mut [u8],
+    n: usize,
+) -> usize {
+    if check::same(word, b"event_end") {
+        return places::event_end(line, at, data, out, n);
+    }
+    if check::same(word, b"event_place") {
+        return places::event_place(line, at, data, out, n);
+    }
+    if check::same(word, b"event_of") {
+        return places::event_of(line, at, data, out, n);
+    }
+    if check::same(word, b"next_event") {
+        return places::next_event(line, at, data, out, n);
+    }
+    of_data_places(word, line, at, data, out, n)
+}
+
+fn of_data_places(
+    word: &[u8],
+    line: &[u8],
+    at: usize,
+    data: &mut [u8],
+    out: &mut [u8],
+    n: usize,
+) -> usize {
+    if check::same(word, b"find_flat") {
+        return places::find_flat(line, at, data, out, n);
+    }
+    if check::same(word, b"find_srm") {
+        return places::find_srm(line, at, data, out, n);
+    }
+    if check::same(word, b"find_places") {
+        return places::find_places(line, at, data, out, n);
+    }
+    if check::same(word, b"find_data") {
+        return places::find_data(line, at, data, out, n);
     }
     of_names(word, line, at, out, n)
 }
