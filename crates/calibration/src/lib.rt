@@ -1,15 +1,19 @@
 // From a profile's bins to pairs of m/z and intensity (`freq_to_mz`, and the inner loop of `Profile::to_mz_intensity`, of
 // scan_data.rs).
 ghost use mathlib.Core.Path.{_≡_};
-ghost use Prim.Native.Nat.{min, max};
-ghost use lib.ListN.{set};
-ghost use Rattle.lists.specs.Written.{each, fitting};
-ghost use Rattle.calibration.specs.Convert.{series, freqToMz, mzOf, intensityAt};
+ghost use Prim.Native.Nat.{_≤_};
+ghost use lib.ListN.{length};
+ghost use Rattle.lists.specs.Left.{handOutPairs, LeftPairs};
+ghost use Rattle.lists.specs.Written.{each, over};
+ghost use Rattle.calibration.specs.Convert.{series, freqToMz, intensityAt, chunkPairs};
 ghost use Rattle.calibration.specs.Layout.{layoutOf, mzBy, axisOf, mzOn};
 use floats::f64_of_bits;
 use floats::widened;
+use lists::holds;
 use reader::saturating_add;
 use reader::u32_at;
+use refusal::CountAnswer;
+use refusal::Refusal;
 
 // Where a profile's bins lie: the frequency of bin 0 and the distance to the next, as the bits of f64 numbers.
 pub struct Bins {
@@ -105,28 +109,7 @@ fn bin_to_mz(axis: Axis, layout: Layout, i: u64) -> f64
     mz_by(layout, freq) + fudge
 }
 
-// How many pairs to go through: no more than the longer slice has elements.
-fn pair_count(n: u64, mz: u64, intensity: u64) -> u64
-    ensures { λ r. ⌜ r ≡ min n (max mz intensity) ⌝ }
-{
-    if n <= mz {
-        return n;
-    }
-    if n <= intensity {
-        return n;
-    }
-    if mz <= intensity { intensity } else { mz }
-}
-
-// Writes nothing behind the end.
-fn put(out: &mut [f64], i: usize, v: f64)
-    ensures { λ _. ⌜ now (out .exit) ≡ set (now (out .entry)) i v ⌝ }
-{
-    if i < out.len() {
-        out[i] = v;
-    }
-}
-
+// The pairs, where both slices hold them.
 fn write_pairs(
     run: &[u8],
     at: u64,
@@ -136,22 +119,24 @@ fn write_pairs(
     mz: &mut [f64],
     intensity: &mut [f64],
 )
-    ensures { λ _. ⌜ now (mz .exit) ≡ fitting (each (mzOn axis layout) n) (now (mz .entry)) ⌝ }
-    ensures { λ _. ⌜ now (intensity .exit) ≡ fitting (each (intensityAt (now (run .entry)) at) n) (now (intensity .entry)) ⌝ }
+    requires { ⌜ n ≤ length (now mz) ⌝ }
+    requires { ⌜ n ≤ length (now intensity) ⌝ }
+    ensures { λ _. ⌜ now (mz .exit) ≡ over (each (mzOn axis layout) n) (now (mz .entry)) ⌝ }
+    ensures { λ _. ⌜ now (intensity .exit) ≡ over (each (intensityAt (now (run .entry)) at) n) (now (intensity .entry)) ⌝ }
 {
-    let count = pair_count(n, mz.len() as u64, intensity.len() as u64) as usize;
+    let count = n as usize;
     let mut place = at;
     let mut i: usize = 0;
     while i < count {
-        put(mz, i, bin_to_mz(axis, layout, i as u64));
-        put(intensity, i, widened(u32_at(run, place)));
+        mz[i] = bin_to_mz(axis, layout, i as u64);
+        intensity[i] = widened(u32_at(run, place));
         place = saturating_add(place, 4);
         i = i + 1;
     }
 }
 
-// The n pairs of the chunk whose signal starts at a place of the run, over the fronts of both slices, as far as each
-// goes. `fudge` has the bits of an f32, 0 for a chunk without one.
+// The n pairs of the chunk whose signal starts at a place of the run, over the fronts of both slices. `fudge` has the bits
+// of an f32, 0 for a chunk without one.
 pub fn write_chunk(
     run: &[u8],
     at: u64,
@@ -162,17 +147,20 @@ pub fn write_chunk(
     coefficients: &[u64],
     mz: &mut [f64],
     intensity: &mut [f64],
-)
-    ensures { λ _. ⌜ now (mz .exit) ≡ fitting (each (mzOf bins «first_bin» fudge (now (coefficients .entry))) n) (now (mz .entry)) ⌝ }
-    ensures { λ _. ⌜ now (intensity .exit) ≡ fitting (each (intensityAt (now (run .entry)) at) n) (now (intensity .entry)) ⌝ }
+) -> CountAnswer
+    ensures { λ r. ⌜ LeftPairs (λ m i. handOutPairs m i (chunkPairs bins «first_bin» fudge (now (coefficients .entry)) (now (run .entry)) at n)) (now (mz .entry)) (now (intensity .entry)) r (now (mz .exit)) (now (intensity .exit)) ⌝ }
 {
-    write_pairs(
-        run,
-        at,
-        n,
-        axis_of(bins, first_bin, fudge),
-        layout_of(coefficients),
-        mz,
-        intensity,
-    );
+    if holds(n, mz.len() as u64, holds(n, intensity.len() as u64, true)) {
+        write_pairs(
+            run,
+            at,
+            n,
+            axis_of(bins, first_bin, fudge),
+            layout_of(coefficients),
+            mz,
+            intensity,
+        );
+        return CountAnswer::Count(n);
+    }
+    CountAnswer::Refused(Refusal::NoRoom)
 }
