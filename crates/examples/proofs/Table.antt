@@ -1,11 +1,10 @@
 -- The table of document 01's worked examples: what the definitions that contracts cite give at these values.
--- Assumes nothing.
 use mathlib.Core.Path.{_≡_, refl}
 use mathlib.Core.Bool.{true, false}
 use mathlib.Core.List.{List, [], _∷_}
 use Prim.Native.Nat.{ℕ}
 use lib.IntN.{pos, negsuc}
-use lib.Ieee.{Float, nan, fin, binary64, round, ofInt, ofBits, toBits, add, sub, mul, div, eq, lt, le}
+use lib.Ieee.{Float, nan, fin, binary32, binary64, round, ofInt, ofBits, toBits, add, sub, mul, div, eq, lt, le}
 use Rattle.refusal.specs.Outcome.{ok}
 use Rattle.preamble.specs.Size.{sizeForVersion}
 use Rattle.window.specs.Window.{lowest, highest, windowOf}
@@ -13,7 +12,7 @@ use Rattle.window.specs.declared.Window.the-variants.{Ends}
 use Rattle.calibration.specs.Convert.{freqToMz}
 use Rattle.narrow.specs.Narrow.{narrow}
 use Rattle.noise.specs.Line.{noiseAt, noiseOf, past, between, fraction}
-use Rattle.noise.specs.declared.NoiseNode.{NoiseNode}
+use Rattle.noise.specs.Nodes.{Words}
 use Rattle.noise.specs.declared.NoiseAnswer.the-variants.{Values}
 use Rattle.ten_thousandths.specs.TenThousandths.{limit, scaled, tenThousandths}
 
@@ -21,9 +20,12 @@ use Rattle.ten_thousandths.specs.TenThousandths.{limit, scaled, tenThousandths}
 abbrev whole : ℕ → Float
 whole n = ofInt binary64 (pos n)
 
--- n as the bits of an f64
+-- its bits as an f64, and as an f32
 abbrev bits : ℕ → ℕ
 bits n = toBits binary64 (whole n)
+
+abbrev bits32 : ℕ → ℕ
+bits32 n = toBits binary32 (whole n)
 
 -- the f64 nearest to 0.1
 abbrev tenth : Float
@@ -39,10 +41,10 @@ threeHalves = fin false 3 (negsuc 0)
 abbrev mass : Float
 mass = fin false 16001 (negsuc 4)
 
-abbrev node : ℕ → ℕ → ℕ → NoiseNode
-node mz noise baseline = record { mz = whole mz; noise = whole noise; baseline = whole baseline }
+abbrev node : ℕ → ℕ → ℕ → Words
+node mz noise baseline = record { mz = bits32 mz; noise = bits32 noise; baseline = bits32 baseline }
 
-abbrev nodes : List NoiseNode
+abbrev nodes : List Words
 nodes = node 100 1 3 ∷ node 200 2 5 ∷ []
 
 -- a and b are coefficients that don't count, and cs are any at all
@@ -56,9 +58,9 @@ pub table : (a b : ℕ) (cs : List ℕ)
     × (freqToMz (whole 2) (a ∷ bits 1 ∷ bits 2 ∷ bits 4 ∷ []) ≡ whole 3)
     × (freqToMz (whole 2) (a ∷ b ∷ bits 1 ∷ bits 4 ∷ bits 16 ∷ []) ≡ whole 3)
     × (freqToMz minusZero cs ≡ whole 0)
-    × (noiseAt (whole 50) nodes ≡ Values (whole 1) (whole 3))
-    × (noiseAt (whole 150) nodes ≡ Values threeHalves (whole 4))
-    × (noiseAt nan nodes ≡ Values (whole 2) (whole 5))
+    × (noiseAt (whole 50) nodes ≡ Values (bits32 1) (bits32 3))
+    × (noiseAt (whole 150) nodes ≡ Values (toBits binary32 threeHalves) (bits32 4))
+    × (noiseAt nan nodes ≡ Values (bits32 2) (bits32 5))
     × (tenThousandths mass ≡ ok 5000313)
 unfolding ofInt round ofBits toBits add sub mul div eq lt le sizeForVersion lowest highest freqToMz narrow noiseOf past between fraction limit scaled tenThousandths
 table a b cs = (refl, refl, refl, refl, refl, refl, refl, refl, refl, refl, refl, refl, refl)

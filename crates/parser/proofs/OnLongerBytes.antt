@@ -28,14 +28,14 @@ module _ {R A B L : Type 0} (told : R → Outcome B) (one : (r q : R) → told r
   longer see leave meets seen unseen answered stands =
       record {
         stays = λ s t r q ys zs m l never.
-        let same : f (s ++ t) ≡ f s = prefix s t (λ part h. never part (answered s r ys m ∙ seen (f s) part h)) in (
-          one q r (answered (s ++ t) q zs l ∙ ap see same ∙ sym (answered s r ys m)),
-          stands (s ++ t) q zs l ∙ ap leave same ∙ sym (stands s r ys m),
-        );
+            let same : f (s ++ t) ≡ f s = prefix s t (λ part h. never part (answered s r ys m ∙ seen (f s) part h)) in (
+              one q r (answered (s ++ t) q zs l ∙ ap see same ∙ sym (answered s r ys m)),
+              stands (s ++ t) q zs l ∙ ap leave same ∙ sym (stands s r ys m),
+            );
         named = λ s r ys part m h. names s part (unseen (f s) part (sym (answered s r ys m) ∙ h));
         completes = λ s r ys part isBytes few low m h.
-        let w = completing part s isBytes few low (unseen (f s) part (sym (answered s r ys m) ∙ h)) in
-        (w .0, w .1, λ q zs l i. w .2 (unseen (f (s ++ w .0)) part (sym (answered (s ++ w .0) q zs l) ∙ i)));
+            let w = completing part s isBytes few low (unseen (f s) part (sym (answered s r ys m) ∙ h)) in
+            (w .0, w .1, λ q zs l i. w .2 (unseen (f (s ++ w .0)) part (sym (answered (s ++ w .0) q zs l) ∙ i)));
       }
 
   -- a call that writes to lent slices
