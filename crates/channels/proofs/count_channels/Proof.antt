@@ -1,5 +1,4 @@
 -- `channels::count_channels` meets its contract. The invariant: `count` places below i hold a channel.
--- Assumes nothing.
 use mathlib.Core.Path.{sym, _∙_}
 use mathlib.Core.Logic.{⊎-elim}
 use Prim.Native.Nat.{_-_, _≤_}
@@ -16,9 +15,6 @@ Inv-loop «data» events end count₀ i₀ count i = Counted (channelTest events
 abbrev μ-loop : tie.MeasureT-loop
 μ-loop «data» events end count₀ i₀ count i = end - i
 
-remaining-requires : tie.Need-remaining-requires Inv-loop μ-loop
-remaining-requires c κs = search needs
-
 loop-holds : tie.Need-loop-holds Inv-loop μ-loop
 loop-holds c = (count-none _ _ _, search needs)
 
@@ -27,12 +23,6 @@ is-channel-requires c κs = (omega (arith, c .before .loop .inv .0 .started), om
 
 add-count : tie.Need-add-count Inv-loop μ-loop
 add-count c = omega (arith, c .before .before .before .loop .inv .0 .within)
-
-add-i : tie.Need-add-i Inv-loop μ-loop
-add-i c = search needs
-
-loop-less : tie.Need-loop-less Inv-loop μ-loop
-loop-less c = search needs
 
 loop-again : tie.Need-loop-again Inv-loop μ-loop
 loop-again c =
@@ -51,16 +41,4 @@ returns c =
     count-done _ _ _ _ _ _ (l .loop .inv .0) (omega arith)
 
 pub count-channels-spec : {M : Type 1} → statement M
-count-channels-spec =
-    tie.close
-    (tie.spec
-    Inv-loop
-    μ-loop
-    remaining-requires
-    loop-holds
-    is-channel-requires
-    add-count
-    add-i
-    loop-less
-    loop-again
-    returns)
+count-channels-spec = tie.close (tie.spec Inv-loop μ-loop (search needs) loop-holds is-channel-requires add-count (search needs) (search needs) loop-again returns)

@@ -1,16 +1,9 @@
 -- `channels::flatv66_event_channels` meets its contract: both ways out are one law each.
--- Assumes nothing.
 use native.Mathlib.Omega.{arith}
 use Rattle.channels.proofs.Answers.{refused-result, written-result}
 use borrow.Author.Needs.{needs}
 use Rattle.channels.proofs.flatv66_event_channels.Statement.{statement}
 use Rattle.channels.proofs.flatv66_event_channels.Tie as tie
-
-count-channels-requires : tie.Need-count-channels-requires
-count-channels-requires c κs = search needs
-
-shortest-requires : tie.Need-shortest-requires
-shortest-requires c κs = search needs
 
 returns : tie.Need-returns
 returns c =
@@ -24,15 +17,6 @@ write-channels-requires c κs =
     let fits = rw (h .before .count-channels .ensures, h .shortest .ensures) at (e .if1 .left) in
     (omega arith, (omega arith, omega arith))
 
-same-length : tie.Need-same-length
-same-length c = search needs
-
-same-length-2 : tie.Need-same-length-2
-same-length-2 c = search needs
-
-same-length-3 : tie.Need-same-length-3
-same-length-3 c = search needs
-
 returns-2 : tie.Need-returns-2
 returns-2 c =
     let w = c .before .before .before .before .before .before in
@@ -43,14 +27,4 @@ returns-2 c =
     (written-result _ _ _ _ _ _ (h .shortest .ensures) (rw count at (e .if1 .left)) _ _ _ (w .write-channels .ensures .0) (w .write-channels .ensures .1 .0) (w .write-channels .ensures .1 .1))
 
 pub flatv66-event-channels-spec : {M : Type 1} → statement M
-flatv66-event-channels-spec =
-    tie.close
-    (tie.spec
-    count-channels-requires
-    shortest-requires
-    returns
-    write-channels-requires
-    same-length
-    same-length-2
-    same-length-3
-    returns-2)
+flatv66-event-channels-spec = tie.close (tie.spec (search needs) (search needs) returns write-channels-requires (search needs) (search needs) (search needs) returns-2)

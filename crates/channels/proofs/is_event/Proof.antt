@@ -1,5 +1,4 @@
 -- `channels::is_event` meets its contract. The invariant: none of the first k numbers is `id`.
--- Assumes nothing.
 use mathlib.Core.Path.{_≡_, refl, sym, _∙_}
 use Prim.Native.Nat.{_-_}
 use native.Mathlib.Omega.{arith}
@@ -20,12 +19,6 @@ abbrev μ-loop : tie.MeasureT-loop
 loop-holds : tie.Need-loop-holds Inv-loop μ-loop
 loop-holds c = refl
 
-mul-if1 : tie.Need-mul-if1 Inv-loop μ-loop
-mul-if1 c = search needs
-
-shared-slice-read-if1 : tie.Need-shared-slice-read-if1 Inv-loop μ-loop
-shared-slice-read-if1 c = search needs
-
 cast-if1 : tie.Need-cast-if1 Inv-loop μ-loop
 cast-if1 c = omega (arith, c .shared-slice-known .given (c .before .before .loop .k))
 
@@ -34,12 +27,6 @@ returns c =
     let l = c .before .before .before in
     let a = l .before .args in
     sym (l .loop .inv ∙ among-here (a .id) (now (a .events)) (l .loop .k) (search needs) (c .if1 .taken))
-
-add-k : tie.Need-add-k Inv-loop μ-loop
-add-k c = search needs
-
-loop-less : tie.Need-loop-less Inv-loop μ-loop
-loop-less c = search needs
 
 loop-again : tie.Need-loop-again Inv-loop μ-loop
 loop-again c =
@@ -51,17 +38,4 @@ returns-2 : tie.Need-returns-2 Inv-loop μ-loop
 returns-2 c = sym (c .before .loop .inv ∙ among-none _ _ _ (c .loop-test .left))
 
 pub is-event-spec : {M : Type 1} → statement M
-is-event-spec =
-    tie.close
-    (tie.spec
-    Inv-loop
-    μ-loop
-    loop-holds
-    mul-if1
-    shared-slice-read-if1
-    cast-if1
-    returns
-    add-k
-    loop-less
-    loop-again
-    returns-2)
+is-event-spec = tie.close (tie.spec Inv-loop μ-loop loop-holds (search needs) (search needs) cast-if1 returns (search needs) (search needs) loop-again returns-2)

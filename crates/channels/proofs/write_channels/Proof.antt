@@ -1,5 +1,4 @@
 -- `channels::write_channels` meets its contract. The invariant: the channels at places below i are written, `written` of them.
--- Assumes nothing.
 use mathlib.Core.Path.{ap, sym, _∙_}
 use mathlib.Core.Logic.{⊎-elim}
 use Prim.Native.Nat.{_-_, _≤_, _<_}
@@ -49,9 +48,6 @@ in-energies c =
     let l = c .before .before .before in
     omega (arith, more c, l .before .before .before .before .before .before .before .pre .1 .1, l .loop .inv .3 .same)
 
-remaining-requires : tie.Need-remaining-requires Inv-loop μ-loop
-remaining-requires c κs = search needs
-
 loop-holds : tie.Need-loop-holds Inv-loop μ-loop
 loop-holds c = (count-none _ _ _, write-none _ _ _ _ _, write-none _ _ _ _ _, write-none _ _ _ _ _, search needs)
 
@@ -63,9 +59,6 @@ channel-at-requires c κs =
     let l = c .before .before .before in
     let known = l .before .before .before .before .before in
     ((omega (arith, l .loop .inv .0 .started), omega arith), channel-event 65536 _ _ _ (λ k. omega (arith, known .shared-slice-known2 .given k)) (sym (c .before .is-channel .ensures) ∙ c .if1 .taken))
-
-mul-channel-events : tie.Need-mul-channel-events Inv-loop μ-loop
-mul-channel-events c = search needs
 
 slice-write-channel-events : tie.Need-slice-write-channel-events Inv-loop μ-loop
 slice-write-channel-events c = in-events (c .before)
@@ -84,12 +77,6 @@ slice-write-collision-energy c = in-energies (c .before)
 
 add-written : tie.Need-add-written Inv-loop μ-loop
 add-written c = omega (arith, c .before .before .before .before .loop .inv .0 .within)
-
-add-i : tie.Need-add-i Inv-loop μ-loop
-add-i c = search needs
-
-loop-less : tie.Need-loop-less Inv-loop μ-loop
-loop-less c = search needs
 
 loop-again : tie.Need-loop-again Inv-loop μ-loop
 loop-again c =
@@ -139,24 +126,6 @@ returns c =
 pub write-channels-spec : {M : Type 1} → statement M
 write-channels-spec =
     tie.close
-    (tie.spec
-    Inv-loop
-    μ-loop
-    remaining-requires
-    loop-holds
-    is-channel-requires
-    channel-at-requires
-    mul-channel-events
-    slice-write-channel-events
-    mul-q1
-    slice-write-q1
-    mul-collision-energy
-    slice-write-collision-energy
-    add-written
-    add-i
-    loop-less
-    loop-again
-    same-length
-    same-length-2
-    same-length-3
-    returns)
+    (tie.spec Inv-loop μ-loop (search needs) loop-holds is-channel-requires channel-at-requires (search needs) slice-write-channel-events mul-q1
+    slice-write-q1 mul-collision-energy slice-write-collision-energy add-written (search needs) (search needs) loop-again same-length
+    same-length-2 same-length-3 returns)

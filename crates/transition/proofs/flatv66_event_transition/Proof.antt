@@ -1,5 +1,4 @@
 -- `transition::flatv66_event_transition` meets its contract. The invariant: no place before i passed, so the search goes on from i.
--- Assumes nothing.
 use mathlib.Core.Path.{_≡_, refl, sym, _∙_}
 use Prim.Native.Nat.{_-_, _≤_}
 use native.Mathlib.Omega.{arith}
@@ -19,33 +18,15 @@ Inv-loop «data» event hi end i₀ i =
 abbrev μ-loop : tie.MeasureT-loop
 μ-loop «data» event hi end i₀ i = end - i
 
-remaining-requires : tie.Need-remaining-requires Inv-loop μ-loop
-remaining-requires c κs = search needs
-
 loop-holds : tie.Need-loop-holds Inv-loop μ-loop
 unfolding flatv66EventTransition
 loop-holds c = (search needs, refl)
-
-event-test-requires : tie.Need-event-test-requires Inv-loop μ-loop
-event-test-requires c κs = search needs
-
-sub-u64-at : tie.Need-sub-u64-at Inv-loop μ-loop
-sub-u64-at c = search needs
-
-u64-at-requires : tie.Need-u64-at-requires Inv-loop μ-loop
-u64-at-requires c κs = search needs
 
 returns : tie.Need-returns Inv-loop μ-loop
 returns c =
     let t = c .before .before in
     let l = t .before .before in
     rw (c .u64-at .ensures) (sym (l .loop .inv .1 ∙ first-here _ _ _ _ _ (omega arith) (sym (t .event-test .ensures) ∙ c .before .if1 .taken)))
-
-add-i : tie.Need-add-i Inv-loop μ-loop
-add-i c = search needs
-
-loop-less : tie.Need-loop-less Inv-loop μ-loop
-loop-less c = search needs
 
 loop-again : tie.Need-loop-again Inv-loop μ-loop
 loop-again c =
@@ -59,16 +40,5 @@ returns-2 c = sym (c .before .loop .inv .1 ∙ first-none _ _ _ _ _ (omega arith
 pub flatv66-event-transition-spec : {M : Type 1} → statement M
 flatv66-event-transition-spec =
     tie.close
-    (tie.spec
-    Inv-loop
-    μ-loop
-    remaining-requires
-    loop-holds
-    event-test-requires
-    sub-u64-at
-    u64-at-requires
-    returns
-    add-i
-    loop-less
-    loop-again
-    returns-2)
+    (tie.spec Inv-loop μ-loop (search needs) loop-holds (search needs) (search needs) (search needs) returns (search needs) (search needs)
+    loop-again returns-2)

@@ -1,5 +1,4 @@
 -- `transition::search_v63_transition` meets its contract. The invariant: no place before j passed, so the search goes on from j.
--- Assumes nothing.
 use mathlib.Core.Path.{_≡_, refl, sym, ap, _∙_}
 use Prim.Native.Nat.{_-_, _≤_}
 use native.Mathlib.Omega.{arith}
@@ -19,18 +18,9 @@ Inv-loop «data» target end j₀ j =
 abbrev μ-loop : tie.MeasureT-loop
 μ-loop «data» target end j₀ j = end - j
 
-remaining-requires : tie.Need-remaining-requires Inv-loop μ-loop
-remaining-requires c κs = search needs
-
 loop-holds : tie.Need-loop-holds Inv-loop μ-loop
 unfolding searchV63Transition
 loop-holds c = (search needs, refl)
-
-v63-test-requires : tie.Need-v63-test-requires Inv-loop μ-loop
-v63-test-requires c κs = search needs
-
-v63-at-requires : tie.Need-v63-at-requires Inv-loop μ-loop
-v63-at-requires c κs = search needs
 
 returns : tie.Need-returns Inv-loop μ-loop
 returns c =
@@ -38,12 +28,6 @@ returns c =
     let l = t .before .before in
     ap Found (c .v63-at .ensures)
     ∙ sym (l .loop .inv .1 ∙ first-here _ _ _ _ _ (omega arith) (sym (t .v63-test .ensures) ∙ c .before .if1 .taken))
-
-add-j : tie.Need-add-j Inv-loop μ-loop
-add-j c = search needs
-
-loop-less : tie.Need-loop-less Inv-loop μ-loop
-loop-less c = search needs
 
 loop-again : tie.Need-loop-again Inv-loop μ-loop
 loop-again c =
@@ -55,17 +39,4 @@ returns-2 : tie.Need-returns-2 Inv-loop μ-loop
 returns-2 c = sym (c .before .loop .inv .1 ∙ first-none _ _ _ _ _ (omega arith))
 
 pub search-v63-transition-spec : {M : Type 1} → statement M
-search-v63-transition-spec =
-    tie.close
-    (tie.spec
-    Inv-loop
-    μ-loop
-    remaining-requires
-    loop-holds
-    v63-test-requires
-    v63-at-requires
-    returns
-    add-j
-    loop-less
-    loop-again
-    returns-2)
+search-v63-transition-spec = tie.close (tie.spec Inv-loop μ-loop (search needs) loop-holds (search needs) (search needs) returns (search needs) (search needs) loop-again returns-2)
