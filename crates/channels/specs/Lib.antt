@@ -1,2 +1,3 @@
 pub mod Passing
 pub mod Channels
+pub mod LongerBytes

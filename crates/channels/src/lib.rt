@@ -6,10 +6,12 @@ ghost use Prim.Native.Nat.{_+_, _-_, _≤_, _<_};
 ghost use lib.ListN.{length};
 ghost use Rattle.lists.specs.Written.{over};
 ghost use Rattle.parser.specs.Parser.{bytes, le};
-ghost use Rattle.channels.specs.Channels.{among, fromUpTo, channelTest, channelAt, channelsIn, shortest, result, resultOf};
+ghost use Rattle.channels.specs.Channels.{among, fromUpTo, channelTest, channelAt, channelsIn, slices, Channels};
+use lists::holds;
 use reader::remaining;
 use reader::u32_at;
 use reader::u64_at;
+use refusal::CountAnswer;
 use refusal::Refusal;
 use transition::f64_at;
 use transition::narrow_window;
@@ -19,12 +21,6 @@ pub struct Channel {
     pub event: u16,
     pub q1: u64,
     pub collision_energy: u64,
-}
-
-// How many channels were written, or why none were.
-pub enum ChannelsAnswer {
-    Channels(u64),
-    Refused(Refusal),
 }
 
 // A number that stands twice among the events is found once.
@@ -125,15 +121,6 @@ fn write_channels(
     }
 }
 
-fn shortest(a: usize, b: usize, c: usize) -> usize
-    ensures { λ r. ⌜ r ≡ shortest a b c ⌝ }
-{
-    if a <= b {
-        return if a <= c { a } else { c };
-    }
-    if b <= c { b } else { c }
-}
-
 // The channels in the order of their places, over the fronts of the lent slices. The bytes are walked twice, since a slice
 // may be too short and only the last place tells how many channels there are: nothing is written before that is known.
 pub fn flatv66_event_channels(
@@ -142,14 +129,23 @@ pub fn flatv66_event_channels(
     channel_events: &mut [u16],
     q1: &mut [u64],
     collision_energy: &mut [u64],
-) -> ChannelsAnswer
-    ensures { λ r. ⌜ result r (now («channel_events» .exit)) (now (q1 .exit)) (now («collision_energy» .exit))
-        ≡ resultOf (now (events .entry)) (now («data» .entry)) (now («channel_events» .entry)) (now (q1 .entry)) (now («collision_energy» .entry)) ⌝ }
+) -> CountAnswer
+    ensures { λ r. ⌜ Channels (now (events .entry)) (now («data» .entry)) (slices (now («channel_events» .entry)) (now (q1 .entry)) (now («collision_energy» .entry)))
+        r (slices (now («channel_events» .exit)) (now (q1 .exit)) (now («collision_energy» .exit))) ⌝ }
 {
     let count = count_channels(data, events);
-    if shortest(channel_events.len(), q1.len(), collision_energy.len()) < count {
-        return ChannelsAnswer::Refused(Refusal::NoRoom);
+    let n = count as u64;
+    if holds(
+        n,
+        channel_events.len() as u64,
+        holds(
+            n,
+            q1.len() as u64,
+            holds(n, collision_energy.len() as u64, true),
+        ),
+    ) {
+        write_channels(data, events, channel_events, q1, collision_energy);
+        return CountAnswer::Count(n);
     }
-    write_channels(data, events, channel_events, q1, collision_energy);
-    ChannelsAnswer::Channels(count as u64)
+    CountAnswer::Refused(Refusal::NoRoom)
 }
