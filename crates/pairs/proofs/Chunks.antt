@@ -1,5 +1,4 @@
 -- The chunks from a place on, by what stands there: a loop over them goes on chunk by chunk.
--- Assumes nothing.
 use mathlib.Core.Path.{_≡_, refl}
 use Prim.Native.Nat.{ℕ, zero, suc, _+_, _-_, _<_}
 use native.Mathlib.Omega.{arith}

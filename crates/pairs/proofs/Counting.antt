@@ -1,5 +1,4 @@
 -- A loop that counts the values of a profile's chunks.
--- Assumes nothing.
 use mathlib.Core.Path.{_≡_, ap, sym, _∙_}
 use Prim.Native.Nat.{ℕ, _+_, _*_, _-_, _≤_, _<_}
 use native.Mathlib.Nat.{sub-zero, zero-add, add-zero, add-assoc}

@@ -1,5 +1,4 @@
 -- Two chunks, the same with the last byte missing, and document 01's peak: antt computes each one.
--- Assumes nothing.
 use mathlib.Core.Path.{_≡_, refl}
 use mathlib.Core.Bool.{true, false}
 use mathlib.Core.List.{List, [], _∷_, _++_}

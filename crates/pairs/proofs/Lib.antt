@@ -1,10 +1,7 @@
-pub mod Tails
 pub mod Signals
 pub mod Chunks
 pub mod Counting
 pub mod Writing
 pub mod PeakPairs
-pub mod Results
-pub mod Told
 pub mod Profiles
 pub mod Examples

@@ -1,9 +1,9 @@
--- A profile that was read: the run has all of its chunks, and they hold as many values as the profile says.
--- Assumes nothing.
+-- A profile that was read: the run has all of its chunks, they hold as many values as the profile says, and on longer bytes
+-- they are the same.
 use mathlib.Core.Path.{_≡_, ap, sym, _∙_}
 use Prim.Native.Nat.{ℕ, zero, suc}
 use mathlib.Core.Bool.{Bool}
-use mathlib.Core.List.{List}
+use mathlib.Core.List.{List, _++_}
 use lib.ListN.{length}
 use Rattle.refusal.specs.Outcome.{ok}
 use Rattle.parser.specs.Parser.{parsed, parse, repeat}
@@ -12,7 +12,8 @@ use Rattle.parser.proofs.Walk.{first-of}
 use Rattle.profile.specs.Profile.{Chunk, points, chunk, located, readProfile}
 use Rattle.profile.specs.declared.Profile.{Profile}
 use Rattle.profile.proofs.Answers.{profiled}
-use Rattle.pairs.specs.Pairs.{chunksFrom, chunksOf, binsOf, profilePairs}
+use Rattle.profile.proofs.LongerBytes.{same-chunks}
+use Rattle.pairs.specs.Pairs.{chunksFrom, chunksOf, binsOf, pairsOf, profilePairs}
 use Rattle.pairs.proofs.Writing.{length-pairs}
 
 pub chunks-parsed : (fudged : Bool) (s : List ℕ) (n at : ℕ) {cs : List Chunk} {end : ℕ} → parse (repeat n (chunk fudged)) s at ≡ parsed cs end → chunksFrom fudged s n at ≡ cs
@@ -33,3 +34,14 @@ module _ (layout : ℕ) (s : List ℕ) (at : ℕ) {v : Profile} {next : ℕ} (e 
   pub read-pairs : (coefficients : List ℕ) → length (profilePairs v coefficients s) ≡ v .points
   unfolding profilePairs
   read-pairs coefficients = length-pairs (binsOf v) coefficients (chunksOf v s) ∙ read-points
+
+  pub longer-chunks : (t : List ℕ) → chunksOf v (s ++ t) ≡ chunksOf v s
+  longer-chunks t =
+      let there = profiled layout s at e .chunked in
+      chunks-parsed (v .fudged) (s ++ t) (v .«peak_count») (v .«chunks_at») (same-chunks layout at s t e ∙ there)
+      ∙ sym (chunks-parsed (v .fudged) s (v .«peak_count») (v .«chunks_at») there)
+
+  -- a record that was read on s has the same pairs on longer bytes
+  pub longer-pairs : (coefficients t : List ℕ) → profilePairs v coefficients (s ++ t) ≡ profilePairs v coefficients s
+  unfolding profilePairs
+  longer-pairs coefficients t = ap (pairsOf (binsOf v) coefficients) (longer-chunks t)

@@ -1,5 +1,4 @@
 -- Where a chunk's signal stands, by the tests that decide it; and the chunk that stands there.
--- Assumes nothing.
 use mathlib.Core.Path.{_≡_, refl, ap, _∙_}
 use Prim.Native.Nat.{ℕ, _+_, _*_, _≤_, _<_}
 use native.Mathlib.Omega.{arith}

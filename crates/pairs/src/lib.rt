@@ -2,34 +2,30 @@
 // scan_data.rs), and those of a peak list.
 ghost use mathlib.Core.Path.{_≡_};
 ghost use mathlib.Core.Bool.{cond};
-ghost use Prim.Native.Nat.{_+_, _*_};
+ghost use Prim.Native.Nat.{_+_, _*_, _≤_};
 ghost use lib.ListN.{length};
-ghost use Rattle.lists.specs.Written.{each, fitting};
+ghost use Rattle.lists.specs.Left.{firsts, seconds, handOutPairs, LeftPairs};
+ghost use Rattle.lists.specs.Written.{each, over};
 ghost use Rattle.parser.specs.Parser.{parse};
 ghost use Rattle.parser.specs.Walk.{sum};
 ghost use Rattle.profile.specs.Profile.{points as pointsOf, chunk};
 ghost use Rattle.peaks.specs.Peaks.{peaksAt};
-ghost use Rattle.pairs.specs.Pairs.{chunksOf, profilePairs, peakPairs, masses, intensities, handOut, result, leaves};
+ghost use Rattle.pairs.specs.Pairs.{chunksOf, profilePairs, peakPairs};
 ghost use Rattle.pairs.specs.Stored.{signalOf, floatAt};
 use calibration::Bins;
 use calibration::write_chunk;
 use floats::f64_of_bits;
 use floats::widened;
+use lists::holds;
 use profile::Profile;
 use profile::fudge_at;
 use profile::head_size;
 use reader::remaining;
 use reader::saturating_add;
-use reader::smaller;
 use reader::u32_at;
 use reader::u64_at;
+use refusal::CountAnswer;
 use refusal::Refusal;
-
-// How many pairs there are.
-pub enum PairsAnswer {
-    Pairs(u64),
-    Refused(Refusal),
-}
 
 // Where a chunk's signal stands, how many values it has, and the place behind it.
 struct Signal {
@@ -81,27 +77,25 @@ fn count_pairs(run: &[u8], profile: Profile) -> u64
     pairs
 }
 
-// The pairs of a profile's chunks, as far as the run has them, over the fronts of both slices, as far as each goes.
-pub fn write_pairs(
+// The pairs of a profile's chunks, as far as the run has them, where both slices hold them.
+fn write_pairs(
     run: &[u8],
     profile: Profile,
     coefficients: &[u64],
     mz: &mut [f64],
     intensity: &mut [f64],
 )
-    ensures { λ _. ⌜ now (mz .exit) ≡ fitting (masses (profilePairs profile (now (coefficients .entry)) (now (run .entry)))) (now (mz .entry)) ⌝ }
-    ensures { λ _. ⌜ now (intensity .exit) ≡ fitting (intensities (profilePairs profile (now (coefficients .entry)) (now (run .entry)))) (now (intensity .entry)) ⌝ }
+    requires { ⌜ sum pointsOf (chunksOf profile (now run)) ≤ length (now mz) ⌝ }
+    requires { ⌜ sum pointsOf (chunksOf profile (now run)) ≤ length (now intensity) ⌝ }
+    ensures { λ _. ⌜ now (mz .exit) ≡ over (firsts (profilePairs profile (now (coefficients .entry)) (now (run .entry)))) (now (mz .entry)) ⌝ }
+    ensures { λ _. ⌜ now (intensity .exit) ≡ over (seconds (profilePairs profile (now (coefficients .entry)) (now (run .entry)))) (now (intensity .entry)) ⌝ }
 {
     let bins = Bins {
         first_value: profile.first_value,
         step: profile.step,
     };
-    let mz_len = mz.len() as u64;
-    let intensity_len = intensity.len() as u64;
     let mut at = profile.chunks_at;
-    // How many of each are written. They differ once one of the slices is full.
     let mut n: usize = 0;
-    let mut m: usize = 0;
     let mut i: u32 = 0;
     while i < profile.peak_count {
         let SignalAnswer::Signal(signal) = signal_at(run, at, profile.fudged) else {
@@ -116,33 +110,34 @@ pub fn write_pairs(
             bins,
             coefficients,
             &mut mz[n..],
-            &mut intensity[m..],
+            &mut intensity[n..],
         );
-        n = smaller(n as u64 + signal.points, mz_len) as usize;
-        m = smaller(m as u64 + signal.points, intensity_len) as usize;
+        n = n + signal.points as usize;
         at = signal.end;
         i = i + 1;
     }
 }
 
-// The same, where the slices hold them.
+// The pairs of a profile's chunks, as far as the run has them, over the fronts of both slices.
 pub fn to_mz_intensity(
     run: &[u8],
     profile: Profile,
     coefficients: &[u64],
     mz: &mut [f64],
     intensity: &mut [f64],
-) -> PairsAnswer
-    ensures { λ r. ⌜ result r (now (mz .exit)) (now (intensity .exit)) ≡ leaves (handOut (length (now (mz .entry))) (length (now (intensity .entry))) (profilePairs profile (now (coefficients .entry)) (now (run .entry)))) (now (mz .entry)) (now (intensity .entry)) ⌝ }
+) -> CountAnswer
+    ensures { λ r. ⌜ LeftPairs (λ m i. handOutPairs m i (profilePairs profile (now (coefficients .entry)) (now (run .entry)))) (now (mz .entry)) (now (intensity .entry)) r (now (mz .exit)) (now (intensity .exit)) ⌝ }
 {
-    let n = count_pairs(run, profile);
-    if n <= mz.len() as u64 {
-        if n <= intensity.len() as u64 {
-            write_pairs(run, profile, coefficients, mz, intensity);
-            return PairsAnswer::Pairs(n);
-        }
+    let pairs = count_pairs(run, profile);
+    if holds(
+        pairs,
+        mz.len() as u64,
+        holds(pairs, intensity.len() as u64, true),
+    ) {
+        write_pairs(run, profile, coefficients, mz, intensity);
+        return CountAnswer::Count(pairs);
     }
-    PairsAnswer::Refused(Refusal::NoRoom)
+    CountAnswer::Refused(Refusal::NoRoom)
 }
 
 // A number that is stored as an f64, or as an f32.
@@ -156,14 +151,15 @@ fn float_at(run: &[u8], at: u64, wide: bool) -> f64
     }
 }
 
-// Numbers that stand at equal distances, over the front of a lent slice, as far as it goes.
+// Numbers that stand at equal distances, over the front of a lent slice that holds them.
 fn copy_floats(run: &[u8], at: u64, stride: u64, n: u64, wide: bool, out: &mut [f64])
-    ensures { λ _. ⌜ now (out .exit) ≡ fitting (each (λ i. floatAt wide (now (run .entry)) (at + i * stride)) n) (now (out .entry)) ⌝ }
+    requires { ⌜ n ≤ length (now out) ⌝ }
+    ensures { λ _. ⌜ now (out .exit) ≡ over (each (λ i. floatAt wide (now (run .entry)) (at + i * stride)) n) (now (out .entry)) ⌝ }
 {
-    let room = smaller(n, out.len() as u64) as usize;
+    let count = n as usize;
     let mut place = at;
     let mut i: usize = 0;
-    while i < room {
+    while i < count {
         out[i] = float_at(run, place, wide);
         place = saturating_add(place, stride);
         i = i + 1;
@@ -178,7 +174,7 @@ fn mz_size(wide: bool) -> u64
 }
 
 // The pairs of n peaks, each `stride` bytes behind the one before: an m/z, and right behind it the abundance.
-pub fn write_peak_pairs(
+pub fn peak_pairs(
     run: &[u8],
     at: u64,
     stride: u64,
@@ -186,17 +182,14 @@ pub fn write_peak_pairs(
     wide: bool,
     mz: &mut [f64],
     intensity: &mut [f64],
-)
-    ensures { λ _. ⌜ now (mz .exit) ≡ fitting (masses (peakPairs (peaksAt wide stride (now (run .entry)) at n))) (now (mz .entry)) ⌝ }
-    ensures { λ _. ⌜ now (intensity .exit) ≡ fitting (intensities (peakPairs (peaksAt wide stride (now (run .entry)) at n))) (now (intensity .entry)) ⌝ }
+) -> CountAnswer
+    ensures { λ r. ⌜ LeftPairs (λ m i. handOutPairs m i (peakPairs (peaksAt wide stride (now (run .entry)) at n))) (now (mz .entry)) (now (intensity .entry)) r (now (mz .exit)) (now (intensity .exit)) ⌝ }
 {
-    copy_floats(run, at, stride, n, wide, mz);
-    copy_floats(
-        run,
-        saturating_add(at, mz_size(wide)),
-        stride,
-        n,
-        false,
-        intensity,
-    );
+    if holds(n, mz.len() as u64, holds(n, intensity.len() as u64, true)) {
+        copy_floats(run, at, stride, n, wide, mz);
+        let behind = saturating_add(at, mz_size(wide));
+        copy_floats(run, behind, stride, n, false, intensity);
+        return CountAnswer::Count(n);
+    }
+    CountAnswer::Refused(Refusal::NoRoom)
 }

@@ -1,5 +1,4 @@
 -- `pairs::count_pairs` meets its contract: a turn passes one chunk and counts its values (`Counting`).
--- Assumes nothing.
 use mathlib.Core.Path.{sym, _∙_}
 use Prim.Native.Nat.{_-_}
 use native.Mathlib.Omega.{arith}
@@ -19,15 +18,6 @@ abbrev μ-loop : tie.MeasureT-loop
 loop-holds : tie.Need-loop-holds Inv-loop μ-loop
 loop-holds c = counting-first (c .before .args .profile) (now (c .before .args .run))
 
-signal-at-requires : tie.Need-signal-at-requires Inv-loop μ-loop
-signal-at-requires c κs = search needs
-
-enum-known-found : tie.Need-enum-known-found Inv-loop μ-loop
-enum-known-found c = search needs
-
-enum-told : tie.Need-enum-told Inv-loop μ-loop
-enum-told c = search needs
-
 returns : tie.Need-returns Inv-loop μ-loop
 returns c =
     let a = c .before .before .before .before .before .before .before .args in
@@ -40,12 +30,6 @@ chunk-there c = there _ _ _ (sym (c .before .before .found .given .1) ∙ c .bef
 
 add-pairs : tie.Need-add-pairs Inv-loop μ-loop
 add-pairs c = omega (arith, c .before .before .before .before .before .before .before .loop .inv .fits, chunk-there c .starts, chunk-there c .ends)
-
-add-passed : tie.Need-add-passed Inv-loop μ-loop
-add-passed c = search needs
-
-loop-less : tie.Need-loop-less Inv-loop μ-loop
-loop-less c = search needs
 
 loop-again : tie.Need-loop-again Inv-loop μ-loop
 loop-again c =
@@ -66,12 +50,12 @@ count-pairs-spec =
     Inv-loop
     μ-loop
     loop-holds
-    signal-at-requires
-    enum-known-found
-    enum-told
+    (search needs)
+    (search needs)
+    (search needs)
     returns
     add-pairs
-    add-passed
-    loop-less
+    (search needs)
+    (search needs)
     loop-again
     returns-2)
