@@ -1,25 +1,54 @@
--- Demand 3 for a tray's header.
--- Assumes nothing.
-use Prim.Native.Nat.{_^_, _-_}
+-- Demand 3 for a tray's header, whatever the limit of scans is and the refusal's number, which is not 1.
+use mathlib.Core.Path.{_≡_}
+use Prim.Native.Nat.{ℕ, _^_, _-_}
+use mathlib.Core.Bool.{not}
 use mathlib.Core.List.{[]}
-use lib.Dec.{leb, lit≤}
+use native.Mathlib.Omega.{arith}
+use lib.Dec.{T, leb, eqb, lit≤, lit<}
+use borrow.Author.Tests.{ne-eqb}
 use Rattle.refusal.specs.Outcome.{ok, refused}
 use Rattle.parser.specs.Call.{single}
-use Rattle.parser.specs.LongerBytes.{PrefixProperty, Completes}
+use Rattle.parser.specs.LongerBytes.{OnLongerBytes, PrefixProperty, Names, Completes}
 use Rattle.parser.proofs.Completion.{bounded-sized}
-use Rattle.parser.proofs.Calls.{Settled, settled-cond, prefix-property, single-completes}
-use Rattle.tray_header.specs.Header.{header, judged, readTrayHeader}
+use Rattle.parser.proofs.Calls.{Settled, settled-cond, prefix-property, only-part, single-completes}
+use Rattle.parser.proofs.OnLongerBytes.{plain-longer, one-part}
+use Rattle.tray_header.specs.Header.{header, judged, readHeader, readTrayHeader, told}
 use Rattle.tray_header.specs.declared.TrayHeader.{TrayHeader}
 use Rattle.tray_header.proofs.Answers.{header-sized}
+use Rattle.tray_header.proofs.Told.{header-told-one}
 
-judged-settled : (h : TrayHeader) → Settled (judged 4096 6 h)
-unfolding judged
-judged-settled h = settled-cond (leb (h .flat) 1) _ (refused 5 []) (settled-cond (leb (h .scans) 4096) (ok h) (refused 6 []) tt tt) tt
+module _ (limit number : ℕ) where
+  pub header-prefix : PrefixProperty (readHeader limit number)
+  unfolding readHeader
+  header-prefix = prefix-property (single 1 0 header (λ h _. judged limit number h))
+
+  module _ (other : number ≡ 1 → ⊥) where
+    judged-settled : (h : TrayHeader) → Settled (judged limit number h)
+    unfolding judged
+    judged-settled h =
+        let one : T (not (eqb number 1)) = rw (ne-eqb number 1 other) tt in
+        settled-cond (leb (h .flat) 1) _ (refused 5 []) (settled-cond (leb (h .scans) limit) (ok h) (refused number []) tt one) tt
+
+    pub header-names : Names (λ q. q ≡ 1) (readHeader limit number)
+    unfolding readHeader
+    header-names = only-part 1 0 header (λ h _. judged limit number h) (λ h _. judged-settled h)
+
+    pub header-completes : Completes 1 0 (readHeader limit number)
+    unfolding readHeader
+    header-completes = single-completes 1 0 header (λ h _. judged limit number h) (bounded-sized (2 ^ 62) 32 (2 ^ 61) header (lit≤ tt) header-sized) (λ h _. judged-settled h)
+
+-- ---- at most 4,096 scans, or refusal 6
+pub six : _≡_ {A = ℕ} 6 1 → ⊥
+six e = omega (arith, e)
 
 pub tray-header-prefix : PrefixProperty readTrayHeader
-unfolding readTrayHeader
-tray-header-prefix = prefix-property (single 1 0 header (λ h _. judged 4096 6 h))
+tray-header-prefix = header-prefix 4096 6
 
 pub tray-header-completes : Completes 1 0 readTrayHeader
-unfolding readTrayHeader
-tray-header-completes = single-completes 1 0 header (λ h _. judged 4096 6 h) (bounded-sized (2 ^ 62) 32 (2 ^ 61) header (lit≤ tt) header-sized) (λ h _. judged-settled h)
+tray-header-completes = header-completes 4096 6 six
+
+-- the header starts at 0, so nothing is asked of its start
+pub tray-header-longer : OnLongerBytes told (λ s r (_ : Unit {0}). told r ≡ readTrayHeader s) (λ q. q ≡ 1) (λ _ _. Unit {0})
+tray-header-longer =
+    plain-longer told header-told-one readTrayHeader tray-header-prefix (λ q. q ≡ 1) (λ _ _. Unit {0}) (header-names 4096 6 six)
+    (λ part s isBytes few _. one-part 1 0 readTrayHeader (header-names 4096 6 six) tray-header-completes part s isBytes few (lit< tt))

@@ -36,9 +36,13 @@ header = do
 unfoldable pub judged : ℕ → ℕ → TrayHeader → Outcome TrayHeader
 judged limit number h = cond (leb (h .flat) 1) (cond (leb (h .scans) limit) (ok h) (refused number [])) (refused 5 [])
 
--- what `read_tray_header` answers: part 1 is the header; at most 4,096 scans, or refusal 6
-unfoldable pub readTrayHeader : List ℕ → Outcome TrayHeader
-readTrayHeader tray = outcome (single 1 0 header (λ h _. judged 4096 6 h)) tray
+-- the header, part 1, where at most `limit` scans are taken
+unfoldable pub readHeader : ℕ → ℕ → List ℕ → Outcome TrayHeader
+readHeader limit number tray = outcome (single 1 0 header (λ h _. judged limit number h)) tray
+
+-- what `read_tray_header` answers: at most 4,096 scans, or refusal 6
+abbrev pub readTrayHeader : List ℕ → Outcome TrayHeader
+readTrayHeader = readHeader 4096 6
 
 abbrev pub told : TrayHeaderAnswer → Outcome TrayHeader
 told (answer.Header h) = ok h

@@ -1,5 +1,4 @@
 -- `tray_header::read_tray_header` meets its contract: each way out is decided by the tests that led there.
--- Assumes nothing.
 use native.Mathlib.Omega.{arith}
 use denote.Ref.{now}
 use Rattle.tray_header.proofs.Answers.{short-header, other-flat, too-many, whole-header}
@@ -7,14 +6,8 @@ use borrow.Author.Needs.{needs}
 use Rattle.tray_header.proofs.read_tray_header.Statement.{statement}
 use Rattle.tray_header.proofs.read_tray_header.Tie as tie
 
-remaining-requires : tie.Need-remaining-requires
-remaining-requires c κs = search needs
-
 returns : tie.Need-returns
 returns c = short-header (now (c .before .before .before .args .tray)) (omega arith)
-
-fields-requires : tie.Need-fields-requires
-fields-requires c κs = search needs
 
 returns-2 : tie.Need-returns-2
 returns-2 c = other-flat (now (c .before .before .before .before .before .before .args .tray)) (omega arith) (c .before .before .fields .ensures) (c .if2 .taken)
@@ -27,4 +20,4 @@ returns-4 c = whole-header (now (c .before .before .before .before .before .befo
 
 pub read-tray-header-spec : {M : Type 1} → statement M
 read-tray-header-spec =
-    tie.close (tie.spec remaining-requires returns fields-requires returns-2 returns-3 returns-4)
+    tie.close (tie.spec (search needs) returns (search needs) returns-2 returns-3 returns-4)
