@@ -1,5 +1,4 @@
 -- A number by its last digit and those before it, and how many digits there are.
--- Assumes nothing.
 use mathlib.Core.Path.{_≡_, refl, ap}
 use mathlib.Core.Bool.{Bool, true, false}
 use mathlib.Core.List.{List, [], _∷_, _++_}

@@ -1,5 +1,4 @@
 -- How long a text can be: a slice of this many bytes takes all of it.
--- Assumes nothing.
 use mathlib.Core.Path.{_≡_}
 use mathlib.Core.Bool.{Bool, true, false, _&&_, _||_, cond}
 use mathlib.Core.List.{List, [], _∷_}
@@ -12,12 +11,12 @@ use lib.Ieee.Fits.{and-l}
 use lib.Ieee.Positive.{num, den, den-pos}
 use lib.ListN.{length, length-append}
 use Rattle.refusal.specs.Outcome.{ok, refused}
-use Rattle.refusal.specs.Number.{number as numberOf}
+use Rattle.refusal.specs.Number.{number as numberOf, carried}
 use Rattle.refusal.specs.declared.Part.the-variants.{Header, Index, Event, Data}
 use Rattle.refusal.specs.declared.Refusal.{Refusal}
 use Rattle.refusal.specs.declared.Refusal.the-variants.{Short, UnrecognizedScanRecord, InvalidPrecursorMz, BodyTooShort, FlatWord, TooManyScans, NoSuchScan, NoRoom, MassOutOfRange}
 use Rattle.ten_thousandths.specs.TenThousandths.{zeroF, limit, nearestWhole, scaled, tenThousandths}
-use Rattle.lines.specs.Lines.{decimal, line, listed, mass, bits, partOf, trayLine, refusalLine, pairLines, scanLines}
+use Rattle.lines.specs.Lines.{decimal, line, listed, mass, bits, partIn, trayLine, refusalLine, pairLines, scanLines}
 use Rattle.lines.proofs.Digits.{decimal-length, hexadecimal-length}
 
 -- ---- a mass that is listed has at most 9 digits
@@ -46,7 +45,7 @@ nearest-most n d D h =
     let D2 : 0 < d * 2 = omega arith in
     div-lt-iff-lt-mul D2 .1 (omega arith)
 
-mass-most : (mz : Float) → length (mass mz) ≤ 9
+pub mass-most : (mz : Float) → length (mass mz) ≤ 9
 unfolding tenThousandths scaled
 mass-most mz = go (le zeroF mz) (le mz limit) (fraction-most mz)
   where
@@ -74,14 +73,14 @@ small-number n h = decimal-length 9 n (omega arith)
 number-most : (n : ℕ) → n < 2 ^ 64 → length (decimal n) ≤ 20
 number-most n h = decimal-length 19 n (omega arith)
 
-numbered : (mark a b c : ℕ) → a < 2 ^ 32 → b < 2 ^ 64 → c < 2 ^ 64 → length (line ((mark ∷ []) ∷ decimal a ∷ decimal b ∷ decimal c ∷ [])) ≤ 64
+pub numbered : (mark a b c : ℕ) → a < 2 ^ 32 → b < 2 ^ 64 → c < 2 ^ 64 → length (line ((mark ∷ []) ∷ decimal a ∷ decimal b ∷ decimal c ∷ [])) ≤ 64
 numbered mark a b c f g h = simp length-append (omega (arith, small-number a f, number-most b g, number-most c h))
 
 pub tray-room : (version scans : ℕ) → version < 2 ^ 32 → scans < 2 ^ 32 → length (trayLine version scans) ≤ 64
 unfolding trayLine
 tray-room version scans h k = simp length-append (omega (arith, small-number version h, small-number scans k))
 
-number-small : (refusal : Refusal) → (numberOf refusal < 2 ^ 64) × (partOf refusal < 2 ^ 64)
+number-small : (refusal : Refusal) → (numberOf refusal < 2 ^ 64) × (partIn (numberOf refusal) (carried refusal) < 2 ^ 64)
 number-small (Short Header) = (lit< tt, lit< tt)
 number-small (Short Index) = (lit< tt, lit< tt)
 number-small (Short Event) = (lit< tt, lit< tt)
@@ -97,7 +96,7 @@ number-small MassOutOfRange = (lit< tt, lit< tt)
 
 pub refusal-room : (number : ℕ) (refusal : Refusal) → number < 2 ^ 32 → length (refusalLine number refusal) ≤ 64
 unfolding refusalLine
-refusal-room number refusal h = let small = number-small refusal in numbered 88 number (numberOf refusal) (partOf refusal) h (small .0) (small .1)
+refusal-room number refusal h = let small = number-small refusal in numbered 88 number (numberOf refusal) (partIn (numberOf refusal) (carried refusal)) h (small .0) (small .1)
 
 pub scan-room : (number coefficients : ℕ) (mz intensity : List Float) → number < 2 ^ 32 → coefficients < 2 ^ 64 → min (length mz) (length intensity) < 2 ^ 64
     → length (scanLines number coefficients mz intensity) ≤ 64 + 27 * length mz

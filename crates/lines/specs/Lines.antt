@@ -11,9 +11,9 @@ use Rattle.refusal.specs.declared.Refusal.{Refusal}
 use Rattle.text.specs.Text.{ascii}
 use Rattle.ten_thousandths.specs.TenThousandths.{tenThousandths}
 
--- `0` to `9`, then `a` to `f`
+-- the character of a digit below 16
 unfoldable pub digit : ℕ → ℕ
-digit d = cond (ltb d 10) (48 + d) (87 + d)
+digit d = getD (ascii "0123456789abcdef") d 0
 
 -- n by its last digit, and those of n / 10 where n has more than one
 abbrev pub lastOff : Bool → ℕ → (ℕ → List ℕ) → List ℕ
@@ -40,9 +40,9 @@ hex16 n = hexadecimal 16 n
 
 -- fields one space apart, and a line feed
 abbrev pub line : List (List ℕ) → List ℕ
-line [] = 10 ∷ []
-line (field ∷ []) = field ++ (10 ∷ [])
-line (field ∷ next ∷ others) = field ++ 32 ∷ line (next ∷ others)
+line [] = ascii "\n"
+line (field ∷ []) = field ++ ascii "\n"
+line (field ∷ next ∷ others) = field ++ (ascii " " ++ line (next ∷ others))
 
 -- an m/z in ten-thousandths, or `-` where it has none
 abbrev pub listed : Outcome ℕ → List ℕ
@@ -63,9 +63,6 @@ trayLine version scans = line (ascii "T" ∷ decimal version ∷ decimal scans �
 -- the part that a refusal 1 carries, and 0 of others
 abbrev pub partIn : ℕ → List ℕ → ℕ
 partIn refusal carries = cond (eqb refusal 1) (getD carries 0 0) 0
-
-abbrev pub partOf : Refusal → ℕ
-partOf refusal = partIn (numberOf refusal) (carried refusal)
 
 -- `X number refusal part`, by the refusal's number and what it carries
 abbrev pub refusedLine : ℕ → ℕ → List ℕ → List ℕ

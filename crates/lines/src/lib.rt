@@ -1,20 +1,24 @@
-// The lines of the listing program, written at the front of a lent slice, as far as it goes. Each public function answers
-// how many bytes it wrote.
+// The lines of the listing program, at the front of a lent slice. Each public function answers how many bytes it wrote, or
+// refusal 8 where the slice does not hold them all.
 ghost use mathlib.Core.Path.{_≡_};
-ghost use mathlib.Core.List.{[], _∷_};
-ghost use Prim.Native.Nat.{_<_, min};
+ghost use mathlib.Core.List.{[], _∷_, _++_};
+ghost use Prim.Native.Nat.{_^_, _<_, min};
+ghost use lib.Dec.{leb};
 ghost use lib.ListN.{length};
-ghost use Rattle.lists.specs.Written.{fitting};
-ghost use Rattle.lines.specs.Lines.{digit, decimal, hexadecimal, line, mass, bits, partOf, trayLine, refusalLine, scanLines};
+ghost use Rattle.lists.specs.Left.{LeftList};
+ghost use Rattle.refusal.specs.Number.{number as numberOf, carried};
+ghost use Rattle.text.specs.Text.{ascii};
+ghost use Rattle.lines.specs.Lines.{digit, decimal, hexadecimal, line, mass, bits, partIn, trayLine, refusalLine, scanLines};
 ghost use Rattle.lines.specs.Placed.{Put};
 use floats::bits_of_f64;
 use reader::smaller;
+use refusal::CountAnswer;
 use refusal::Refusal;
-use ten_thousandths::TenThousandthsAnswer;
 use ten_thousandths::ten_thousandths;
+use text::write;
 
-// Every `put` function writes from a place on and answers the place behind what it wrote, where the next one goes on.
-// Nothing is written behind the slice's end.
+// Every `put` function writes from a place on and answers the place behind what it wrote, where the next one goes on. Who
+// calls it has judged the room: nothing is written behind the slice's end, and what comes back then says nothing.
 fn put(byte: u8, at: usize, out: &mut [u8]) -> usize
     ensures { λ r. ⌜ Put (byte ∷ []) at (now (out .entry)) r (now (out .exit)) ⌝ }
 {
@@ -31,7 +35,8 @@ fn digit(d: u64) -> u8
     requires { ⌜ d < 16 ⌝ }
     ensures { λ r. ⌜ r ≡ digit d ⌝ }
 {
-    if d < 10 { 48 + d as u8 } else { 87 + d as u8 }
+    let digits = b"0123456789abcdef";
+    digits[d as usize]
 }
 
 fn put_decimal(n: u64, at: usize, out: &mut [u8]) -> usize
@@ -57,25 +62,24 @@ fn put_hexadecimal(digits: u32, n: u64, at: usize, out: &mut [u8]) -> usize
 
 // A space, and a number in decimal.
 fn put_number(n: u64, at: usize, out: &mut [u8]) -> usize
-    ensures { λ r. ⌜ Put (32 ∷ decimal n) at (now (out .entry)) r (now (out .exit)) ⌝ }
+    ensures { λ r. ⌜ Put (ascii " " ++ decimal n) at (now (out .entry)) r (now (out .exit)) ⌝ }
 {
     let next = put(b' ', at, out);
     put_decimal(n, next, out)
 }
 
-// `T version count`
-pub fn write_tray_line(version: u32, scans: u32, out: &mut [u8]) -> u64
-    ensures { λ r. ⌜ r ≡ min (length (trayLine version scans)) (length (now (out .entry))) ⌝ }
-    ensures { λ _. ⌜ now (out .exit) ≡ fitting (trayLine version scans) (now (out .entry)) ⌝ }
+// A line of a mark and two numbers.
+fn put_two(mark: u8, a: u64, b: u64, out: &mut [u8]) -> usize
+    ensures { λ r. ⌜ Put (line ((mark ∷ []) ∷ decimal a ∷ decimal b ∷ [])) 0 (now (out .entry)) r (now (out .exit)) ⌝ }
 {
-    let mark = put(b'T', 0, out);
-    let first = put_number(version as u64, mark, out);
-    let second = put_number(scans as u64, first, out);
-    put(b'\n', second, out) as u64
+    let start = put(mark, 0, out);
+    let first = put_number(a, start, out);
+    let second = put_number(b, first, out);
+    put(b'\n', second, out)
 }
 
 // A line of a mark and three numbers.
-fn put_line(mark: u8, a: u64, b: u64, c: u64, out: &mut [u8]) -> usize
+fn put_three(mark: u8, a: u64, b: u64, c: u64, out: &mut [u8]) -> usize
     ensures { λ r. ⌜ Put (line ((mark ∷ []) ∷ decimal a ∷ decimal b ∷ decimal c ∷ [])) 0 (now (out .entry)) r (now (out .exit)) ⌝ }
 {
     let start = put(mark, 0, out);
@@ -85,9 +89,18 @@ fn put_line(mark: u8, a: u64, b: u64, c: u64, out: &mut [u8]) -> usize
     put(b'\n', third, out)
 }
 
+// `T version count`. No line of numbers is longer than 64 bytes.
+pub fn write_tray_line(version: u32, scans: u32, out: &mut [u8]) -> CountAnswer
+    ensures { λ r. ⌜ LeftList (trayLine version scans) (now (out .entry)) r (now (out .exit)) ⌝ }
+{
+    let mut text = [0u8; 64];
+    let n = put_two(b'T', version as u64, scans as u64, &mut text);
+    write(&text[..n], out)
+}
+
 // The part of a refusal 1, and 0 of others.
 fn part_of(refusal: Refusal) -> u64
-    ensures { λ r. ⌜ r ≡ partOf refusal ⌝ }
+    ensures { λ r. ⌜ r ≡ partIn (numberOf refusal) (carried refusal) ⌝ }
 {
     let Refusal::Short(part) = refusal else {
         return 0;
@@ -96,11 +109,18 @@ fn part_of(refusal: Refusal) -> u64
 }
 
 // `X number refusal part`
-pub fn write_refusal_line(number: u32, refusal: Refusal, out: &mut [u8]) -> u64
-    ensures { λ r. ⌜ r ≡ min (length (refusalLine number refusal)) (length (now (out .entry))) ⌝ }
-    ensures { λ _. ⌜ now (out .exit) ≡ fitting (refusalLine number refusal) (now (out .entry)) ⌝ }
+pub fn write_refusal_line(number: u32, refusal: Refusal, out: &mut [u8]) -> CountAnswer
+    ensures { λ r. ⌜ LeftList (refusalLine number refusal) (now (out .entry)) r (now (out .exit)) ⌝ }
 {
-    put_line(b'X', number as u64, refusal.number(), part_of(refusal), out) as u64
+    let mut text = [0u8; 64];
+    let n = put_three(
+        b'X',
+        number as u64,
+        refusal.number(),
+        part_of(refusal),
+        &mut text,
+    );
+    write(&text[..n], out)
 }
 
 // An m/z in ten-thousandths, or `-` where it has none.
@@ -108,8 +128,8 @@ fn put_mass(mz: f64, at: usize, out: &mut [u8]) -> usize
     ensures { λ r. ⌜ Put (mass mz) at (now (out .entry)) r (now (out .exit)) ⌝ }
 {
     match ten_thousandths(mz) {
-        TenThousandthsAnswer::Listed(n) => put_decimal(n, at, out),
-        TenThousandthsAnswer::Refused(_) => put(b'-', at, out),
+        CountAnswer::Count(n) => put_decimal(n, at, out),
+        CountAnswer::Refused(_) => put(b'-', at, out),
     }
 }
 
@@ -123,6 +143,54 @@ fn put_pair(mz: f64, intensity: f64, at: usize, out: &mut [u8]) -> usize
     put(b'\n', end, out)
 }
 
+// As many pairs as both lists have.
+fn pair_count(mz: &[f64], intensity: &[f64]) -> usize
+    ensures { λ r. ⌜ r ≡ min (length (now (mz .entry))) (length (now (intensity .entry))) ⌝ }
+{
+    smaller(mz.len() as u64, intensity.len() as u64) as usize
+}
+
+// The lines of a scan.
+fn put_scan(number: u32, coefficients: u64, mz: &[f64], intensity: &[f64], out: &mut [u8]) -> usize
+    ensures { λ r. ⌜ Put (scanLines number coefficients (now (mz .entry)) (now (intensity .entry))) 0 (now (out .entry)) r (now (out .exit)) ⌝ }
+{
+    let pairs = pair_count(mz, intensity);
+    let mut at = put_three(b'S', number as u64, pairs as u64, coefficients, out);
+    let mut i: usize = 0;
+    while i < pairs {
+        at = put_pair(mz[i], intensity[i], at, out);
+        i = i + 1;
+    }
+    at
+}
+
+// How long a mass is: at most 9 bytes.
+fn mass_size(mz: f64) -> usize
+    ensures { λ r. ⌜ r ≡ length (mass mz) ⌝ }
+{
+    let mut text = [0u8; 9];
+    put_mass(mz, 0, &mut text)
+}
+
+// Whether the lines of a scan fit into so many bytes. Without the mass, a pair's line has 18.
+fn scan_fits(number: u32, coefficients: u64, mz: &[f64], intensity: &[f64], room: usize) -> bool
+    requires { ⌜ room < 2 ^ 63 ⌝ }
+    ensures { λ r. ⌜ r ≡ leb (length (scanLines number coefficients (now (mz .entry)) (now (intensity .entry)))) room ⌝ }
+{
+    let pairs = pair_count(mz, intensity);
+    let mut text = [0u8; 64];
+    let mut size = put_three(b'S', number as u64, pairs as u64, coefficients, &mut text);
+    let mut measured: usize = 0;
+    while measured < pairs {
+        if size > room {
+            return false;
+        }
+        size = size + mass_size(mz[measured]) + 18;
+        measured = measured + 1;
+    }
+    size <= room
+}
+
 // `S number pairs coefficients`, and a line for each pair, as far as both slices go.
 pub fn write_scan_lines(
     number: u32,
@@ -130,17 +198,12 @@ pub fn write_scan_lines(
     mz: &[f64],
     intensity: &[f64],
     out: &mut [u8],
-) -> u64
-    ensures { λ r. ⌜ r ≡ min (length (scanLines number coefficients (now (mz .entry)) (now (intensity .entry)))) (length (now (out .entry))) ⌝ }
-    ensures { λ _. ⌜ now (out .exit) ≡ fitting (scanLines number coefficients (now (mz .entry)) (now (intensity .entry))) (now (out .entry)) ⌝ }
+) -> CountAnswer
+    ensures { λ r. ⌜ LeftList (scanLines number coefficients (now (mz .entry)) (now (intensity .entry))) (now (out .entry)) r (now (out .exit)) ⌝ }
 {
-    let pairs = smaller(mz.len() as u64, intensity.len() as u64);
-    let mut at = put_line(b'S', number as u64, pairs, coefficients, out);
-    let n = pairs as usize;
-    let mut i: usize = 0;
-    while i < n {
-        at = put_pair(mz[i], intensity[i], at, out);
-        i = i + 1;
+    if scan_fits(number, coefficients, mz, intensity, out.len()) {
+        CountAnswer::Count(put_scan(number, coefficients, mz, intensity, out) as u64)
+    } else {
+        CountAnswer::Refused(Refusal::NoRoom)
     }
-    at as u64
 }

@@ -1,5 +1,4 @@
 -- `lines::put_decimal` meets its contract, by recursion: each call writes one digit behind those of the call within it.
--- Assumes nothing.
 use Rattle.lines.proofs.Places.{put-then}
 use Rattle.lines.proofs.Digits.{decimal-one, decimal-more}
 use borrow.Author.Needs.{needs}
@@ -25,115 +24,24 @@ abbrev put-decimal-below : ℕ → In 1 put-decimal-kinds.ps
 put-decimal-below t =
     and 1 put-decimal-kinds.ps (falls 1 put-decimal-kinds.ps _<_ μ-put-decimal t) put-decimal.Pre
 
-put-decimal-digit-requires : (t : ℕ) → put-decimal-lts.Need-digit-requires (
-  digit-reads.Asked,
-  digit-reads.Learnt,
-  put-reads.Asked,
-  put-reads.Learnt,
-  put-decimal-below t,
-  put-decimal.Post,
-) (put-decimal-at t) put-decimal.Post
-put-decimal-digit-requires t c κs = search needs
-
-put-decimal-put-requires : (t : ℕ) → put-decimal-lts.Need-put-requires (
-  digit-reads.Asked,
-  digit-reads.Learnt,
-  put-reads.Asked,
-  put-reads.Learnt,
-  put-decimal-below t,
-  put-decimal.Post,
-) (put-decimal-at t) put-decimal.Post
-put-decimal-put-requires t c κs = search needs
-
-put-decimal-same-length : (t : ℕ) → put-decimal-lts.Need-same-length (
-  digit-reads.Asked,
-  digit-reads.Learnt,
-  put-reads.Asked,
-  put-reads.Learnt,
-  put-decimal-below t,
-  put-decimal.Post,
-) (put-decimal-at t) put-decimal.Post
-put-decimal-same-length t c = search needs
-
-put-decimal-returns : (t : ℕ) → put-decimal-lts.Need-returns (
-  digit-reads.Asked,
-  digit-reads.Learnt,
-  put-reads.Asked,
-  put-reads.Learnt,
-  put-decimal-below t,
-  put-decimal.Post,
-) (put-decimal-at t) put-decimal.Post
+put-decimal-returns : (t : ℕ) → put-decimal-lts.Need-returns (digit-reads.Asked, digit-reads.Learnt, put-reads.Asked, put-reads.Learnt, put-decimal-below t, put-decimal.Post) (put-decimal-at t) put-decimal.Post
 put-decimal-returns t c = rw (decimal-one (c .before .before .before .before .before .before .before .args .n) (c .before .before .before .before .before .if1 .taken), ← c .before .before .before .before .digit .ensures) (c .before .before .put .ensures)
 
-put-decimal-put-decimal-requires : (t : ℕ) → put-decimal-lts.Need-put-decimal-requires (
-  digit-reads.Asked,
-  digit-reads.Learnt,
-  put-reads.Asked,
-  put-reads.Learnt,
-  put-decimal-below t,
-  put-decimal.Post,
-) (put-decimal-at t) put-decimal.Post
-put-decimal-put-decimal-requires t c κs = search needs
-
-put-decimal-digit-requires-2 : (t : ℕ) → put-decimal-lts.Need-digit-requires-2 (
-  digit-reads.Asked,
-  digit-reads.Learnt,
-  put-reads.Asked,
-  put-reads.Learnt,
-  put-decimal-below t,
-  put-decimal.Post,
-) (put-decimal-at t) put-decimal.Post
-put-decimal-digit-requires-2 t c κs = search needs
-
-put-decimal-put-requires-2 : (t : ℕ) → put-decimal-lts.Need-put-requires-2 (
-  digit-reads.Asked,
-  digit-reads.Learnt,
-  put-reads.Asked,
-  put-reads.Learnt,
-  put-decimal-below t,
-  put-decimal.Post,
-) (put-decimal-at t) put-decimal.Post
-put-decimal-put-requires-2 t c κs = search needs
-
-put-decimal-same-length-2 : (t : ℕ) → put-decimal-lts.Need-same-length-2 (
-  digit-reads.Asked,
-  digit-reads.Learnt,
-  put-reads.Asked,
-  put-reads.Learnt,
-  put-decimal-below t,
-  put-decimal.Post,
-) (put-decimal-at t) put-decimal.Post
-put-decimal-same-length-2 t c = search needs
-
-put-decimal-returns-2 : (t : ℕ) → put-decimal-lts.Need-returns-2 (
-  digit-reads.Asked,
-  digit-reads.Learnt,
-  put-reads.Asked,
-  put-reads.Learnt,
-  put-decimal-below t,
-  put-decimal.Post,
-) (put-decimal-at t) put-decimal.Post
+put-decimal-returns-2 : (t : ℕ) → put-decimal-lts.Need-returns-2 (digit-reads.Asked, digit-reads.Learnt, put-reads.Asked, put-reads.Learnt, put-decimal-below t, put-decimal.Post) (put-decimal-at t) put-decimal.Post
 put-decimal-returns-2 t c =
     let first = c .before .before .before .before .before .before .before in
     rw (decimal-more (first .before .before .before .before .args .n) (first .before .before .if1 .left), ← c .before .before .before .before .digit2 .ensures) (put-then (first .put-decimal .ensures) (c .before .before .put2 .ensures))
 
 pub +put-decimal-spec : {M : Type 1} → statement M
-+put-decimal-spec = close μ-put-decimal λ t. put-decimal-lts.spec (
-  digit-reads.Asked,
-  digit-reads.Learnt,
-  put-reads.Asked,
-  put-reads.Learnt,
-  put-decimal-below t,
-  put-decimal.Post,
-)
++put-decimal-spec = close μ-put-decimal λ t. put-decimal-lts.spec (digit-reads.Asked, digit-reads.Learnt, put-reads.Asked, put-reads.Learnt, put-decimal-below t, put-decimal.Post)
     (put-decimal-at t)
     put-decimal.Post
-    (put-decimal-digit-requires t)
-    (put-decimal-put-requires t)
-    (put-decimal-same-length t)
+    (search needs)
+    (search needs)
+    (search needs)
     (put-decimal-returns t)
-    (put-decimal-put-decimal-requires t)
-    (put-decimal-digit-requires-2 t)
-    (put-decimal-put-requires-2 t)
-    (put-decimal-same-length-2 t)
+    (search needs)
+    (search needs)
+    (search needs)
+    (search needs)
     (put-decimal-returns-2 t)

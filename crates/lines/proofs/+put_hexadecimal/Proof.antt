@@ -1,5 +1,4 @@
 -- `lines::put_hexadecimal` meets its contract, by recursion: each call writes one digit behind those of the call within it.
--- Assumes nothing.
 use native.Mathlib.Omega.{arith}
 use denote.Ref.{now}
 use Rattle.lines.proofs.Places.{put-none, put-then}
@@ -35,97 +34,25 @@ put-hexadecimal-below t =
     (falls 1 put-hexadecimal-kinds.ps _<_ μ-put-hexadecimal t)
     put-hexadecimal.Pre
 
-put-hexadecimal-returns : (t : ℕ) → put-hexadecimal-lts.Need-returns (
-  put-hexadecimal-below t,
-  put-hexadecimal.Post,
-  digit-reads.Asked,
-  digit-reads.Learnt,
-  put-reads.Asked,
-  put-reads.Learnt,
-) (put-hexadecimal-at t) put-hexadecimal.Post
+put-hexadecimal-returns : (t : ℕ) → put-hexadecimal-lts.Need-returns (put-hexadecimal-below t, put-hexadecimal.Post, digit-reads.Asked, digit-reads.Learnt, put-reads.Asked, put-reads.Learnt) (put-hexadecimal-at t) put-hexadecimal.Post
 put-hexadecimal-returns t c =
     let a = c .before .before .args in
     rw (hexadecimal-none (a .digits) (a .n) (c .if1 .taken)) (put-none (a .at) (now (a .out)))
 
-put-hexadecimal-sub-put-hexadecimal : (t : ℕ) → put-hexadecimal-lts.Need-sub-put-hexadecimal (
-  put-hexadecimal-below t,
-  put-hexadecimal.Post,
-  digit-reads.Asked,
-  digit-reads.Learnt,
-  put-reads.Asked,
-  put-reads.Learnt,
-) (put-hexadecimal-at t) put-hexadecimal.Post
-put-hexadecimal-sub-put-hexadecimal t c = search needs
-
-put-hexadecimal-put-hexadecimal-requires :
-    (t : ℕ) → put-hexadecimal-lts.Need-put-hexadecimal-requires (
-      put-hexadecimal-below t,
-      put-hexadecimal.Post,
-      digit-reads.Asked,
-      digit-reads.Learnt,
-      put-reads.Asked,
-      put-reads.Learnt,
-    ) (put-hexadecimal-at t) put-hexadecimal.Post
-put-hexadecimal-put-hexadecimal-requires t c κs = search needs
-
-put-hexadecimal-digit-requires : (t : ℕ) → put-hexadecimal-lts.Need-digit-requires (
-  put-hexadecimal-below t,
-  put-hexadecimal.Post,
-  digit-reads.Asked,
-  digit-reads.Learnt,
-  put-reads.Asked,
-  put-reads.Learnt,
-) (put-hexadecimal-at t) put-hexadecimal.Post
-put-hexadecimal-digit-requires t c κs = search needs
-
-put-hexadecimal-put-requires : (t : ℕ) → put-hexadecimal-lts.Need-put-requires (
-  put-hexadecimal-below t,
-  put-hexadecimal.Post,
-  digit-reads.Asked,
-  digit-reads.Learnt,
-  put-reads.Asked,
-  put-reads.Learnt,
-) (put-hexadecimal-at t) put-hexadecimal.Post
-put-hexadecimal-put-requires t c κs = search needs
-
-put-hexadecimal-same-length : (t : ℕ) → put-hexadecimal-lts.Need-same-length (
-  put-hexadecimal-below t,
-  put-hexadecimal.Post,
-  digit-reads.Asked,
-  digit-reads.Learnt,
-  put-reads.Asked,
-  put-reads.Learnt,
-) (put-hexadecimal-at t) put-hexadecimal.Post
-put-hexadecimal-same-length t c = search needs
-
-put-hexadecimal-returns-2 : (t : ℕ) → put-hexadecimal-lts.Need-returns-2 (
-  put-hexadecimal-below t,
-  put-hexadecimal.Post,
-  digit-reads.Asked,
-  digit-reads.Learnt,
-  put-reads.Asked,
-  put-reads.Learnt,
-) (put-hexadecimal-at t) put-hexadecimal.Post
+put-hexadecimal-returns-2 : (t : ℕ) → put-hexadecimal-lts.Need-returns-2 (put-hexadecimal-below t, put-hexadecimal.Post, digit-reads.Asked, digit-reads.Learnt, put-reads.Asked, put-reads.Learnt) (put-hexadecimal-at t) put-hexadecimal.Post
 put-hexadecimal-returns-2 t c =
     let first = c .before .before .before .before .before .before .before in
     let a = first .before .before .before .before .args in
     rw (hexadecimal-more (a .digits) (a .n) (omega arith), ← c .before .before .before .before .digit .ensures) (put-then (first .put-hexadecimal .ensures) (c .before .before .put .ensures))
 
 pub +put-hexadecimal-spec : {M : Type 1} → statement M
-+put-hexadecimal-spec = close μ-put-hexadecimal λ t. put-hexadecimal-lts.spec (
-  put-hexadecimal-below t,
-  put-hexadecimal.Post,
-  digit-reads.Asked,
-  digit-reads.Learnt,
-  put-reads.Asked,
-  put-reads.Learnt,
-)
++put-hexadecimal-spec = close μ-put-hexadecimal λ t. put-hexadecimal-lts.spec (put-hexadecimal-below t, put-hexadecimal.Post, digit-reads.Asked, digit-reads.Learnt, put-reads.Asked, put-reads.Learnt)
     (put-hexadecimal-at t)
     put-hexadecimal.Post
     (put-hexadecimal-returns t)
-    (put-hexadecimal-sub-put-hexadecimal t)
-    (put-hexadecimal-put-hexadecimal-requires t)
-    (put-hexadecimal-digit-requires t)
-    (put-hexadecimal-put-requires t)
-    (put-hexadecimal-same-length t)
+    (search needs)
+    (search needs)
+    (search needs)
+    (search needs)
+    (search needs)
     (put-hexadecimal-returns-2 t)

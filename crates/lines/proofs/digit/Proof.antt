@@ -1,31 +1,12 @@
 -- `lines::digit` meets its contract.
--- Assumes nothing.
-use borrow.Author.Tests.{lt-ltb, le-ltb}
 use Rattle.lines.specs.Lines.{digit}
 use borrow.Author.Needs.{needs}
 use Rattle.lines.proofs.digit.Statement.{statement}
 use Rattle.lines.proofs.digit.Tie as tie
 
-cast-result : tie.Need-cast-result
-cast-result c = search needs
-
-add-result : tie.Need-add-result
-add-result c = search needs
-
-cast-result-2 : tie.Need-cast-result-2
-cast-result-2 c = search needs
-
-add-result-2 : tie.Need-add-result-2
-add-result-2 c = search needs
-
 returns : tie.Need-returns
 unfolding digit
-returns c = simp (lt-ltb (c .before .args .d) 10 (c .if1 .taken))
-
-returns-2 : tie.Need-returns-2
-unfolding digit
-returns-2 c = simp (le-ltb (c .before .args .d) 10 (c .if1 .left))
+returns c = search needs
 
 pub digit-spec : {M : Type 1} → statement M
-digit-spec =
-    tie.close (tie.spec cast-result add-result cast-result-2 add-result-2 returns returns-2)
+digit-spec = tie.close (tie.spec (search needs) returns)

@@ -1,27 +1,8 @@
 -- `lines::put_pair` meets its contract: its parts make the line.
--- Assumes nothing.
 use Rattle.lines.proofs.Places.{put-then}
 use borrow.Author.Needs.{needs}
 use Rattle.lines.proofs.put_pair.Statement.{statement}
 use Rattle.lines.proofs.put_pair.Tie as tie
-
-put-mass-requires : tie.Need-put-mass-requires
-put-mass-requires c κs = search needs
-
-put-requires : tie.Need-put-requires
-put-requires c κs = search needs
-
-bits-of-f64-requires : tie.Need-bits-of-f64-requires
-bits-of-f64-requires c κs = search needs
-
-put-hexadecimal-requires : tie.Need-put-hexadecimal-requires
-put-hexadecimal-requires c κs = search needs
-
-put-requires-2 : tie.Need-put-requires-2
-put-requires-2 c κs = search needs
-
-same-length : tie.Need-same-length
-same-length c = search needs
 
 returns : tie.Need-returns
 returns c =
@@ -33,10 +14,10 @@ pub put-pair-spec : {M : Type 1} → statement M
 put-pair-spec =
     tie.close
     (tie.spec
-    put-mass-requires
-    put-requires
-    bits-of-f64-requires
-    put-hexadecimal-requires
-    put-requires-2
-    same-length
+    (search needs)
+    (search needs)
+    (search needs)
+    (search needs)
+    (search needs)
+    (search needs)
     returns)

@@ -1,40 +1,39 @@
--- `lines::write_tray_line` meets its contract: its parts make the line.
--- Assumes nothing.
-use Rattle.lines.specs.Lines.{trayLine}
-use Rattle.lines.proofs.Places.{put-then, put-front}
+-- `lines::write_tray_line` meets its contract: the line is made, and then written.
+use Prim.Native.Nat.{ℕ, _^_, _<_}
+use native.Mathlib.Omega.{arith}
+use mathlib.Core.List.{List, [], _∷_}
+use lib.ListN.{replicate}
+use Rattle.text.specs.Text.{ascii}
+use Rattle.lines.specs.Lines.{decimal, line, trayLine}
+use Rattle.lines.specs.Placed.{Put}
+use Rattle.lines.proofs.Places.{Made, put-made}
+use Rattle.lines.proofs.Room.{tray-room}
 use borrow.Author.Needs.{needs}
 use Rattle.lines.proofs.write_tray_line.Statement.{statement}
 use Rattle.lines.proofs.write_tray_line.Tie as tie
 
-put-requires : tie.Need-put-requires
-put-requires c κs = search needs
+made : {version scans n : ℕ} {X : List ℕ} → Put (line (ascii "T" ∷ decimal version ∷ decimal scans ∷ [])) 0 (replicate 64 0) n X → version < 2 ^ 32 → scans < 2 ^ 32
+    → Made (trayLine version scans) n X
+unfolding trayLine
+made {version} {scans} p v k = put-made p (tray-room version scans v k)
 
-put-number-requires : tie.Need-put-number-requires
-put-number-requires c κs = search needs
+array-share-prefix-text : tie.Need-array-share-prefix-text
+array-share-prefix-text c = made (c .before .put-two .ensures) (omega arith) (omega arith) .within
 
-put-number-requires-2 : tie.Need-put-number-requires-2
-put-number-requires-2 c κs = search needs
-
-put-requires-2 : tie.Need-put-requires-2
-put-requires-2 c κs = search needs
-
-same-length : tie.Need-same-length
-same-length c = search needs
+slice-aggregate-write : tie.Need-slice-aggregate-write
+slice-aggregate-write c = made (c .before .before .put-two .ensures) (omega arith) (omega arith) .count
 
 returns : tie.Need-returns
-unfolding trayLine
-returns c =
-    let second = c .before .before .before .before .before .before in
-    let first = second .before .before .before .before in
-    put-front (put-then (first .before .before .before .before .put .ensures) (put-then (first .put-number .ensures) (put-then (second .put-number2 .ensures) (c .before .before .put2 .ensures))))
+returns c = let w = c .before .before in rw (made (w .before .before .before .before .put-two .ensures) (omega arith) (omega arith) .is) at (w .write .ensures)
 
 pub write-tray-line-spec : {M : Type 1} → statement M
 write-tray-line-spec =
     tie.close
     (tie.spec
-    put-requires
-    put-number-requires
-    put-number-requires-2
-    put-requires-2
-    same-length
+    (search needs)
+    (search needs)
+    array-share-prefix-text
+    slice-aggregate-write
+    (search needs)
+    (search needs)
     returns)
