@@ -1,18 +1,33 @@
 -- What the label streams ask for behind the end of the bytes.
--- Assumes nothing.
-use Prim.Native.Nat.{ℕ, _*_, _-_, _^_}
+use mathlib.Core.Path.{_≡_}
+use Prim.Native.Nat.{ℕ, _*_, _-_, _^_, _<_}
 use native.Mathlib.Omega.{arith}
+use mathlib.Core.List.{List}
 use lib.Dec.{lit≤}
-use Rattle.refusal.specs.Outcome.{ok}
+use Rattle.refusal.specs.Outcome.{Outcome, ok, onOk}
 use Rattle.parser.specs.Call.{single}
-use Rattle.parser.specs.LongerBytes.{PrefixProperty, Completes}
+use Rattle.parser.specs.LongerBytes.{OnLongerBytes, PrefixProperty, Names, Completes}
 use Rattle.parser.proofs.Completion.{bounded-more}
-use Rattle.parser.proofs.Calls.{prefix-property, single-completes}
+use Rattle.parser.proofs.Calls.{prefix-property, only-part, single-completes}
+use Rattle.parser.proofs.OnLongerBytes.{one-part, plain-longer}
 use Rattle.parser.proofs.Asks.{Asks, Any, asks-sized, asks-more}
 use Rattle.packet_header.specs.declared.PacketHeader.{PacketHeader}
 use Rattle.packet_header.proofs.LongerBytes.{Sizable}
-use Rattle.labels.specs.Labels.{labels, located, readLabels}
+use Rattle.labels.specs.Labels.{labels, located, readLabels, streamsAt, readStreams, told}
 use Rattle.labels.proofs.Answers.{total, labels-sized}
+use Rattle.labels.proofs.Told.{labels-told-one}
+
+-- a contract that says more
+pub longer-and : {R L B : Type 0} {told : R → Outcome B} {meets : List ℕ → R → L → Type 0} {parts : ℕ → Type 0} {near : ℕ → List ℕ → Type 0} (more : List ℕ → R → Type 0)
+    → OnLongerBytes told meets parts near → OnLongerBytes told (λ s r ys. meets s r ys × more s r) parts near
+longer-and more o =
+    record {
+      stays = λ s t r q ys zs m l. o .stays s t r q ys zs (m .0) (l .0);
+      named = λ s r ys part m. o .named s r ys part (m .0);
+      completes = λ s r ys part isBytes few low m h.
+          let w = o .completes s r ys part isBytes few low (m .0) h in
+          (w .0, w .1, λ q zs l. w .2 q zs (l .0));
+    }
 
 pub labels-asks : (far : ℕ) (h : PacketHeader) (n : ℕ) → Sizable h → Asks far (3 * 2 ^ 34) Any (labels h n)
 labels-asks far h n size =
@@ -22,10 +37,21 @@ labels-asks far h n size =
 module _ (h : PacketHeader) (n at : ℕ) where
   pub labels-prefix : PrefixProperty (readLabels h n at)
   unfolding readLabels
-  labels-prefix = prefix-property (single 4 at (labels h n) (λ l next. ok (located h l next)))
+  labels-prefix = prefix-property (single 4 at (labels h n) (λ l next. ok (located h at l next)))
+
+  pub labels-names : Names (λ q. q ≡ 4) (readLabels h n at)
+  unfolding readLabels
+  labels-names = only-part 4 at (labels h n) (λ l next. ok (located h at l next)) (λ _ _. tt)
 
   pub labels-completes : Sizable h → Completes 4 at (readLabels h n at)
   unfolding readLabels
   labels-completes size =
-      single-completes 4 at (labels h n) (λ l next. ok (located h l next))
+      single-completes 4 at (labels h n) (λ l next. ok (located h at l next))
       (bounded-more (2 ^ 62) (3 * 2 ^ 34) (2 ^ 61) (labels h n) (lit≤ tt) (labels-asks (2 ^ 62) h n size .bounded)) (λ _ _. tt)
+
+  pub labels-longer : Sizable h
+      → OnLongerBytes told (λ s r (_ : Unit {0}). (told r ≡ readLabels h n at s) × (onOk (streamsAt s) (told r) ≡ readStreams h n at s)) (λ q. q ≡ 4) (λ _ _. at < 2 ^ 62)
+  labels-longer size =
+      longer-and (λ s r. onOk (streamsAt s) (told r) ≡ readStreams h n at s)
+      (plain-longer told labels-told-one (readLabels h n at) labels-prefix (λ q. q ≡ 4) (λ _ _. at < 2 ^ 62) labels-names
+      (one-part 4 at (readLabels h n at) labels-names (labels-completes size)))

@@ -1,5 +1,4 @@
 -- A stream is of one size, kept or not, and its words are read off at their places.
--- Assumes nothing.
 use mathlib.Core.Path.{_≡_, refl, ap, sym, subst, _∙_}
 use mathlib.Core.Logic.{⊎-elim}
 use Prim.Native.Nat.{ℕ, _+_, _*_, _-_, _/_, _≤_, _<_}
@@ -12,7 +11,7 @@ use borrow.Author.Tests.{le-leb, lt-leb, eq-eqb, ne-eqb, eqb-true}
 use Rattle.lists.specs.Written.{each}
 use Rattle.lists.proofs.Cases.{bool-cases, and-true}
 use Rattle.lists.proofs.Laws.{each-none, each-same}
-use Rattle.parser.specs.Parser.{Parser, done, bytes, le, raw, word, skip, _>>=_, _>>_}
+use Rattle.parser.specs.Parser.{Parser, done, read, bytes, le, raw, word, skip, _>>=_, _>>_}
 use Rattle.parser.specs.Fixed.{Sized, value}
 use Rattle.parser.proofs.Fixed.{sized-raw, sized-word, sized-bind, sized-ahead, sized-cond, sized-counted, value-each}
 use Rattle.labels.specs.Labels.{words, passed, isKept, keptCount, descriptors, resolutions, triplets}
@@ -72,22 +71,19 @@ module _ (n size : ℕ) where
         (λ (t : isKept n size 1 ≡ false). rw t (each-none (λ i. le (bytes s (at + off + 4 + i * 4) 4))))
         (bool-cases (isKept n size 1))
 
--- the nodes, and the words that are left over
-behind : ℕ → List ℕ → Parser (List ℕ)
-behind size nodes = skip size >> done nodes
-
-behind-sized : (size : ℕ) (nodes : List ℕ) → Sized size (behind size nodes)
-unfolding behind
-behind-sized size nodes = subst (λ (k : ℕ). Sized k (skip size >> done nodes)) (add-zero size) (sized-bind size 0 (skip size) (λ _. done nodes) (sized-raw size) (λ _. tt))
-
+-- the nodes and the words that are left over. The law is the same in whatever order they stand, so that an edit of the order fails at their value
 pub triplets-sized : (size : ℕ) → Sized (size * 4) (triplets size)
-unfolding triplets behind
+unfolding triplets
 triplets-sized size =
-    let n = size / 3 in
-    let last = (size - n * 3) * 4 in
-    let e : n * 12 + last ≡ size * 4 = omega arith in
-    subst (λ (k : ℕ). Sized k (triplets size)) e
-    (sized-ahead (n * 12 + last) (n * 12) (raw (n * 12) >>= behind last) (omega arith) (sized-bind (n * 12) last (raw (n * 12)) (behind last) (sized-raw (n * 12)) (behind-sized last)))
+    let n = size / 3 * 12 in
+    let m = (size - size / 3 * 3) * 4 in
+    let a = le-leb n (size * 4) (omega arith) in
+    let b = le-leb m (size * 4) (omega arith) in
+    let c = le-leb m (size * 4 - n) (omega arith) in
+    let d = le-leb n (size * 4 - m) (omega arith) in
+    let e : size * 4 - n - m ≡ 0 = omega arith in
+    let f : size * 4 - m - n ≡ 0 = omega arith in
+    simp (a, b) (λ _. simp (c, d) (λ _. simp (e, f) tt))
 
 pub triplets-value : (size : ℕ) (s : List ℕ) (at off : ℕ) → value (triplets size) s at off ≡ bytes s (at + off) (size / 3 * 12)
 unfolding triplets

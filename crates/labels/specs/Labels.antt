@@ -6,7 +6,8 @@ use lib.Dec.{leb, eqb}
 use lib.ListN.{length}
 use Rattle.refusal.specs.Outcome.{Outcome, ok}
 use Rattle.refusal.specs.Number.{toldRefusal}
-use Rattle.parser.specs.Parser.{Parser, done, _>>=_, _>>_, raw, word, skip, checkCount, repeat}
+use Rattle.lists.specs.Written.{each}
+use Rattle.parser.specs.Parser.{Parser, done, _>>=_, _>>_, bytes, le, raw, word, skip, checkCount, repeat}
 use Rattle.parser.specs.Call.{outcome, single}
 use Rattle.packet_header.specs.declared.PacketHeader.{PacketHeader}
 use Rattle.labels.specs.declared.Labels.{Labels}
@@ -59,22 +60,34 @@ labels h n = do
   nodes ← triplets (h .«triplet_stream_size»)
   done (record { descriptors = ds; resolutions = rs; nodes = nodes })
 
--- where streams stand that end at `next`
-unfoldable pub located : PacketHeader → Streams → ℕ → Labels
-located h l next =
+-- where the streams stand that start at `at`, one behind the other, and end at `next`
+unfoldable pub located : PacketHeader → ℕ → Streams → ℕ → Labels
+located h at l next =
     record {
       descriptors = length (l .descriptors);
-      «descriptors_at» = next - (h .«descriptor_list_size» + h .«unknown_stream_size» + h .«triplet_stream_size») * 4;
+      «descriptors_at» = at;
       resolutions = length (l .resolutions);
-      «unknown_at» = next - (h .«unknown_stream_size» + h .«triplet_stream_size») * 4;
+      «unknown_at» = at + h .«descriptor_list_size» * 4;
       «noise_nodes» = h .«triplet_stream_size» / 3;
-      «nodes_at» = next - h .«triplet_stream_size» * 4;
+      «nodes_at» = at + h .«descriptor_list_size» * 4 + h .«unknown_stream_size» * 4;
       next = next;
     }
 
 -- what `read_labels` answers
 unfoldable pub readLabels : PacketHeader → ℕ → ℕ → List ℕ → Outcome Labels
-readLabels h n at run = outcome (single 4 at (labels h n) (λ l next. ok (located h l next))) run
+readLabels h n at run = outcome (single 4 at (labels h n) (λ l next. ok (located h at l next))) run
+
+-- the words and the nodes that stand at the places it answers, and those that are read
+abbrev pub streamsAt : List ℕ → Labels → Streams
+streamsAt s l =
+    record {
+      descriptors = each (λ i. le (bytes s (l .«descriptors_at» + i * 4) 4)) (l .descriptors);
+      resolutions = each (λ i. le (bytes s (l .«unknown_at» + 4 + i * 4) 4)) (l .resolutions);
+      nodes = bytes s (l .«nodes_at») (l .«noise_nodes» * 12);
+    }
+
+unfoldable pub readStreams : PacketHeader → ℕ → ℕ → List ℕ → Outcome Streams
+readStreams h n at run = outcome (single 4 at (labels h n) (λ l _. ok l)) run
 
 abbrev pub told : LabelsAnswer → Outcome Labels
 told (answer.Labels l) = ok l

@@ -1,6 +1,7 @@
 // The label streams behind a packet's peak list (`read_labels` of scan_data.rs): descriptors, resolutions and noise nodes.
 ghost use mathlib.Core.Path.{_≡_};
-ghost use Rattle.labels.specs.Labels.{keptCount, readLabels, told};
+ghost use Rattle.refusal.specs.Outcome.{onOk};
+ghost use Rattle.labels.specs.Labels.{keptCount, readLabels, streamsAt, readStreams, told};
 use packet_header::PacketHeader;
 use reader::remaining;
 use refusal::Part;
@@ -39,10 +40,11 @@ fn kept_count(peaks: u64, size: u64, more: u64) -> u64
     0
 }
 
-// The streams of a packet that has peaks peaks. Kept or passed over, a stream takes four times its size, so one test
-// judges them all.
+// The streams of a packet with so many peaks. Kept or passed over, a stream takes four times its size, so one test judges
+// them all.
 pub fn read_labels(run: &[u8], at: u64, h: PacketHeader, peaks: u64) -> LabelsAnswer
     ensures { λ r. ⌜ told r ≡ readLabels h peaks at (now (run .entry)) ⌝ }
+    ensures { λ r. ⌜ onOk (streamsAt (now (run .entry))) (told r) ≡ readStreams h peaks at (now (run .entry)) ⌝ }
 {
     let descriptors = h.descriptor_list_size as u64;
     let unknown = h.unknown_stream_size as u64;
@@ -54,7 +56,7 @@ pub fn read_labels(run: &[u8], at: u64, h: PacketHeader, peaks: u64) -> LabelsAn
             resolutions: kept_count(peaks, unknown, 1),
             unknown_at: at + descriptors * 4,
             noise_nodes: triplets / 3,
-            nodes_at: at + (descriptors + unknown) * 4,
+            nodes_at: at + descriptors * 4 + unknown * 4,
             next: at + (descriptors + unknown + triplets) * 4,
         });
     }

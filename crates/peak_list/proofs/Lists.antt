@@ -1,9 +1,7 @@
 -- A peak list is one test and its peaks, by their places.
--- Assumes nothing.
 use mathlib.Core.Path.{_≡_, refl, ap, sym, _∙_}
-use Prim.Native.Nat.{ℕ, _+_, _*_, _-_, _≤_, _<_}
-use native.Mathlib.Nat.{add-zero, zero-add, add-assoc}
-use native.Mathlib.Omega.{arith}
+use Prim.Native.Nat.{ℕ, _+_, _*_, _≤_, _<_}
+use native.Mathlib.Nat.{add-zero, zero-add, zero-mul, add-assoc}
 use mathlib.Core.Bool.{Bool, true, false}
 use mathlib.Core.List.{List}
 use mathlib.Core.Logic.{⊎-elim}
@@ -21,7 +19,7 @@ use Rattle.parser.proofs.Fixed.{parse-sized, parse-stage, sized-word, sized-cou
 use Rattle.packet_header.specs.declared.PacketHeader.{PacketHeader}
 use Rattle.peaks.specs.Peaks.{Peak, peak, peakAt, peaksAt}
 use Rattle.peaks.proofs.Columns.{length-peaks}
-use Rattle.peak_list.specs.PeakList.{isWide, itemSize, counted, peakList, located, readPeaks}
+use Rattle.peak_list.specs.PeakList.{isWide, itemSize, counted, peakList, countWord, listSize, readPeaks}
 
 peak-sized : (wide : Bool) → Sized (itemSize wide) (peak wide)
 unfolding peak
@@ -64,10 +62,7 @@ module _ (h : PacketHeader) (s : List ℕ) (at : ℕ) (wide : Bool) (w : wide �
 
   pub no-list : h .«peak_list_size» ≡ 0 → ok (record { at = at; count = 0; wide = wide; next = at }) ≡ readPeaks h at s
   unfolding readPeaks outcome
-  no-list e =
-      let size = length-peaks wide (itemSize wide) s at 0 in
-      let place : at - 0 * itemSize wide ≡ at = omega arith in
-      rw (parse-none e, ← w, size, place)
+  no-list e = rw (parse-none e, ← w, length-peaks wide (itemSize wide) s at 0, eq-eqb (h .«peak_list_size») 0 e, add-zero at)
 
   module _ (some : h .«peak_list_size» ≡ 0 → ⊥) where
     pub short-count : left s at < 4 → ranOut 4 ≡ readPeaks h at s
@@ -83,15 +78,16 @@ module _ (h : PacketHeader) (s : List ℕ) (at : ℕ) (wide : Bool) (w : wide �
           → ok (record { at = at + 4; count = n; wide = wide; next = at + 4 + n * itemSize wide }) ≡ readPeaks h at s
       unfolding readPeaks outcome peakList
       whole-list u =
-          let size = length-peaks wide (itemSize wide) s (at + 4) n in
-          let place : at + 4 + n * itemSize wide - n * itemSize wide ≡ at + 4 = omega arith in
-          rw (ne-eqb (h .«peak_list_size») 0 some, ← w, parse-list wide s n at e, le-leb _ _ t, le-leb _ _ u, size, place)
+          rw (ne-eqb (h .«peak_list_size») 0 some, ← w, parse-list wide s n at e, le-leb _ _ t, le-leb _ _ u, length-peaks wide (itemSize wide) s (at + 4) n)
 
--- the peaks of a list that was read, by where they stand
-pub located-peaks : (h : PacketHeader) (s : List ℕ) (at : ℕ) {peaks : List Peak} {next : ℕ} → parse (peakList h) s at ≡ parsed peaks next
-    → let l = located h peaks next in peaks ≡ peaksAt (l .wide) (itemSize (l .wide)) s (l .at) (l .count)
+-- a list that was parsed: its peaks stand behind its count word, and end it
+pub record Listed (h : PacketHeader) (s : List ℕ) (at : ℕ) (peaks : List Peak) (next : ℕ) : Type 0 where
+  pub stand : peaks ≡ peaksAt (isWide (h .layout)) (itemSize (isWide (h .layout))) s (at + countWord h) (length peaks)
+  pub end : next ≡ at + listSize h peaks
+
+pub listed : (h : PacketHeader) (s : List ℕ) (at : ℕ) {peaks : List Peak} {next : ℕ} → parse (peakList h) s at ≡ parsed peaks next → Listed h s at peaks next
 unfolding peakList
-located-peaks h s at {peaks} {next} e =
+listed h s at {peaks} {next} e =
     let wide = isWide (h .layout) in
     let z = itemSize wide in
     ⊎-elim
@@ -100,8 +96,7 @@ located-peaks h s at {peaks} {next} e =
     let a : peaks ≡ peaksAt wide z s at 0 = cc in
     let b : next ≡ at = cc in
     let size : length peaks ≡ 0 = ap length a ∙ length-peaks wide z s at 0 in
-    let place : next - 0 * z ≡ at = omega arith in
-    a ∙ rw (size, place))
+    record { stand = a ∙ rw (t, size, add-zero at); end = b ∙ rw (t, size, zero-mul z, add-zero 0, add-zero at) })
     (λ (t : eqb (h .«peak_list_size») 0 ≡ false).
     let n = le (bytes s at 4) in
     let o = within-parsed (leb 4 (left s at)) _ (sym (parse-list wide s n at refl) ∙ rw t at e) in
@@ -109,6 +104,5 @@ located-peaks h s at {peaks} {next} e =
     let a : peaks ≡ peaksAt wide z s (at + 4) n = cc (i .1) in
     let b : next ≡ at + 4 + n * z = cc (i .1) in
     let size : length peaks ≡ n = ap length a ∙ length-peaks wide z s (at + 4) n in
-    let place : next - n * z ≡ at + 4 = omega arith in
-    a ∙ rw (size, place))
+    record { stand = a ∙ rw (t, size); end = b ∙ rw (t, size, add-assoc at 4 (n * z)) })
     (bool-cases (eqb (h .«peak_list_size») 0))

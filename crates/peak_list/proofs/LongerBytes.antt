@@ -1,27 +1,32 @@
 -- Demand 3 for the peaks of a packet.
--- Assumes nothing.
+use mathlib.Core.Path.{_≡_}
 use Prim.Native.Nat.{ℕ, _+_, _*_, _-_, _^_, _≤_, _<_}
 use native.Mathlib.Nat.{mul-le-mul-left}
 use native.Mathlib.Omega.{arith}
 use mathlib.Core.Bool.{Bool, true, false}
 use mathlib.Core.List.{List, []}
 use lib.Dec.{eqb, lit≤}
+use lib.ListN.{length}
 use Rattle.refusal.specs.Outcome.{ok}
 use Rattle.parser.specs.Parser.{done, word, skip, _>>=_}
 use Rattle.parser.specs.Call.{single}
-use Rattle.parser.specs.LongerBytes.{PrefixProperty, Completes}
+use Rattle.parser.specs.LongerBytes.{OnLongerBytes, PrefixProperty, Names, Completes}
 use Rattle.parser.proofs.Fixed.{sized-raw}
-use Rattle.parser.proofs.Completion.{bounded-more}
+use Rattle.parser.proofs.Completion.{Bounded, bounded-more}
 use Rattle.parser.proofs.Asks.{Asks, Any, asks-sized, asks-more, asks-cond, asks-done, asks-word, asks-bind}
-use Rattle.parser.proofs.Calls.{prefix-property, single-completes}
+use Rattle.parser.proofs.Calls.{settled-pairs, prefix-property, only-part, single-completes}
+use Rattle.parser.proofs.OnLongerBytes.{one-part, left-longer, plain-longer}
 use Rattle.packet_header.specs.Header.{header}
 use Rattle.packet_header.specs.declared.PacketHeader.{PacketHeader}
 use Rattle.packet_header.proofs.LongerBytes.{Sizable, header-asks}
-use Rattle.peaks.specs.Peaks.{Peak, handOut}
-use Rattle.peaks.proofs.Results.{hand-out-settled}
-use Rattle.peak_list.specs.PeakList.{isWide, itemSize, counted, peakList, located, readPeaks, skipping, both, skipToPeaks, readPeaksOnly}
+use Rattle.refusal.specs.Number.{toldCount}
+use Rattle.refusal.proofs.Told.{count-one}
+use Rattle.lists.specs.Left.{columns, handOutPairs, LeftPairs}
+use Rattle.peaks.specs.Peaks.{Peak}
+use Rattle.peak_list.specs.PeakList.{isWide, itemSize, counted, peakList, located, readPeaks, toldList, skipping, both, skipToPeaks, toldSkipped, readPeaksOnly}
 use Rattle.peak_list.proofs.Lists.{counted-sized}
 use Rattle.peak_list.proofs.Skipping.{paired, rest}
+use Rattle.peak_list.proofs.Told.{list-told-one, skipped-told-one}
 
 item-most : (wide : Bool) → itemSize wide ≤ 12
 item-most true = lit≤ tt
@@ -52,34 +57,67 @@ module _ (far : ℕ) where
   unfolding skipping rest
   skipping-asks = asks-bind far 40 (2 ^ 34 + (4 + 2 ^ 36)) Sizable (λ (p : PacketHeader × List Peak). Sizable (p .0)) rest rest-asks header (header-asks far)
 
-pub peaks-only-prefix : (m a at : ℕ) → PrefixProperty (readPeaksOnly m a at)
-unfolding readPeaksOnly
-peaks-only-prefix m a at = prefix-property (single 4 at skipping (λ (p : PacketHeader × List Peak) _. handOut m a (p .1)))
+skipping-bounded : Bounded (2 ^ 62) (2 ^ 61) skipping
+skipping-bounded = bounded-more (2 ^ 62) (40 + (2 ^ 34 + (4 + 2 ^ 36))) (2 ^ 61) skipping (lit≤ tt) (skipping-asks (2 ^ 62) .bounded)
 
-pub peaks-only-completes : (m a at : ℕ) → Completes 4 at (readPeaksOnly m a at)
-unfolding readPeaksOnly
-peaks-only-completes m a at =
-    single-completes 4 at skipping (λ (p : PacketHeader × List Peak) _. handOut m a (p .1))
-    (bounded-more (2 ^ 62) (40 + (2 ^ 34 + (4 + 2 ^ 36))) (2 ^ 61) skipping (lit≤ tt) (skipping-asks (2 ^ 62) .bounded))
-    (λ p _. hand-out-settled m a (p .1))
+module _ (at : ℕ) where
+  -- the peaks alone
+  module _ (m a : ℕ) where
+    pub peaks-only-prefix : PrefixProperty (readPeaksOnly m a at)
+    unfolding readPeaksOnly
+    peaks-only-prefix = prefix-property (single 4 at skipping (λ (p : PacketHeader × List Peak) _. handOutPairs m a (p .1)))
 
--- the calls that find
-pub skip-to-peaks-prefix : (at : ℕ) → PrefixProperty (skipToPeaks at)
-unfolding skipToPeaks
-skip-to-peaks-prefix at = prefix-property (single 4 at skipping (λ p next. ok (both p next)))
+    pub peaks-only-names : Names (λ q. q ≡ 4) (readPeaksOnly m a at)
+    unfolding readPeaksOnly
+    peaks-only-names = only-part 4 at skipping (λ (p : PacketHeader × List Peak) _. handOutPairs m a (p .1)) (λ p _. settled-pairs m a (p .1))
 
-pub skip-to-peaks-completes : (at : ℕ) → Completes 4 at (skipToPeaks at)
-unfolding skipToPeaks
-skip-to-peaks-completes at =
-    single-completes 4 at skipping (λ p next. ok (both p next))
-    (bounded-more (2 ^ 62) (40 + (2 ^ 34 + (4 + 2 ^ 36))) (2 ^ 61) skipping (lit≤ tt) (skipping-asks (2 ^ 62) .bounded)) (λ _ _. tt)
+    pub peaks-only-completes : Completes 4 at (readPeaksOnly m a at)
+    unfolding readPeaksOnly
+    peaks-only-completes =
+        single-completes 4 at skipping (λ (p : PacketHeader × List Peak) _. handOutPairs m a (p .1)) skipping-bounded (λ p _. settled-pairs m a (p .1))
 
-pub peak-list-prefix : (h : PacketHeader) (at : ℕ) → PrefixProperty (readPeaks h at)
-unfolding readPeaks
-peak-list-prefix h at = prefix-property (single 4 at (peakList h) (λ peaks next. ok (located h peaks next)))
+  pub peaks-only-longer : (mz abundance : List ℕ)
+      → OnLongerBytes toldCount (λ s r (ys : List ℕ × List ℕ). LeftPairs (λ m a. readPeaksOnly m a at s) mz abundance r (ys .0) (ys .1)) (λ q. q ≡ 4) (λ _ _. at < 2 ^ 62)
+  peaks-only-longer mz abundance =
+      let m = length mz in
+      let a = length abundance in
+      left-longer toldCount count-one (readPeaksOnly m a at) (peaks-only-prefix m a) (λ q. q ≡ 4) (λ _ _. at < 2 ^ 62) (peaks-only-names m a)
+      (one-part 4 at (readPeaksOnly m a at) (peaks-only-names m a) (peaks-only-completes m a)) length columns (mz, abundance)
 
-pub peak-list-completes : (h : PacketHeader) (at : ℕ) → Completes 4 at (readPeaks h at)
-unfolding readPeaks
-peak-list-completes h at =
-    single-completes 4 at (peakList h) (λ peaks next. ok (located h peaks next))
-    (bounded-more (2 ^ 62) (4 + 2 ^ 36) (2 ^ 61) (peakList h) (lit≤ tt) (peak-list-asks (2 ^ 62) h .bounded)) (λ _ _. tt)
+  -- the calls that find
+  pub skip-to-peaks-prefix : PrefixProperty (skipToPeaks at)
+  unfolding skipToPeaks
+  skip-to-peaks-prefix = prefix-property (single 4 at skipping (λ p next. ok (both at p next)))
+
+  pub skip-to-peaks-names : Names (λ q. q ≡ 4) (skipToPeaks at)
+  unfolding skipToPeaks
+  skip-to-peaks-names = only-part 4 at skipping (λ p next. ok (both at p next)) (λ _ _. tt)
+
+  pub skip-to-peaks-completes : Completes 4 at (skipToPeaks at)
+  unfolding skipToPeaks
+  skip-to-peaks-completes = single-completes 4 at skipping (λ p next. ok (both at p next)) skipping-bounded (λ _ _. tt)
+
+  pub skip-to-peaks-longer : OnLongerBytes toldSkipped (λ s r (_ : Unit {0}). toldSkipped r ≡ skipToPeaks at s) (λ q. q ≡ 4) (λ _ _. at < 2 ^ 62)
+  skip-to-peaks-longer =
+      plain-longer toldSkipped skipped-told-one (skipToPeaks at) skip-to-peaks-prefix (λ q. q ≡ 4) (λ _ _. at < 2 ^ 62) skip-to-peaks-names
+      (one-part 4 at (skipToPeaks at) skip-to-peaks-names skip-to-peaks-completes)
+
+  module _ (h : PacketHeader) where
+    pub peak-list-prefix : PrefixProperty (readPeaks h at)
+    unfolding readPeaks
+    peak-list-prefix = prefix-property (single 4 at (peakList h) (λ peaks next. ok (located h at peaks next)))
+
+    pub peak-list-names : Names (λ q. q ≡ 4) (readPeaks h at)
+    unfolding readPeaks
+    peak-list-names = only-part 4 at (peakList h) (λ peaks next. ok (located h at peaks next)) (λ _ _. tt)
+
+    pub peak-list-completes : Completes 4 at (readPeaks h at)
+    unfolding readPeaks
+    peak-list-completes =
+        single-completes 4 at (peakList h) (λ peaks next. ok (located h at peaks next))
+        (bounded-more (2 ^ 62) (4 + 2 ^ 36) (2 ^ 61) (peakList h) (lit≤ tt) (peak-list-asks (2 ^ 62) h .bounded)) (λ _ _. tt)
+
+    pub peak-list-longer : OnLongerBytes toldList (λ s r (_ : Unit {0}). toldList r ≡ readPeaks h at s) (λ q. q ≡ 4) (λ _ _. at < 2 ^ 62)
+    peak-list-longer =
+        plain-longer toldList list-told-one (readPeaks h at) peak-list-prefix (λ q. q ≡ 4) (λ _ _. at < 2 ^ 62) peak-list-names
+        (one-part 4 at (readPeaks h at) peak-list-names peak-list-completes)

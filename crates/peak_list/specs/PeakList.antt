@@ -1,5 +1,5 @@
 -- The centroid peak list of a packet (`read_peaks` and `read_peaks_only` of scan_data.rs).
-use Prim.Native.Nat.{ℕ, _*_, _-_, _/_, _%_}
+use Prim.Native.Nat.{ℕ, _+_, _*_, _/_, _%_}
 use mathlib.Core.Bool.{Bool, true, false, cond}
 use mathlib.Core.List.{List, []}
 use lib.Dec.{eqb}
@@ -10,7 +10,8 @@ use Rattle.parser.specs.Parser.{Parser, done, _>>=_, _>>_, word, skip, checkCou
 use Rattle.parser.specs.Call.{outcome, single}
 use Rattle.packet_header.specs.Header.{header}
 use Rattle.packet_header.specs.declared.PacketHeader.{PacketHeader}
-use Rattle.peaks.specs.Peaks.{Peak, peak, handOut}
+use Rattle.lists.specs.Left.{handOutPairs}
+use Rattle.peaks.specs.Peaks.{Peak, peak}
 use Rattle.peak_list.specs.declared.PeakList.{PeakList}
 use Rattle.peak_list.specs.declared.HeaderAndPeaks.{HeaderAndPeaks}
 use Rattle.peak_list.specs.declared.PeakListAnswer.{PeakListAnswer}
@@ -35,14 +36,20 @@ counted wide count = do
 unfoldable pub peakList : PacketHeader → Parser (List Peak)
 peakList h = cond (eqb (h .«peak_list_size») 0) (done []) (word 4 >>= counted (isWide (h .layout)))
 
--- where the peaks of a list stand that ends at `next`
-abbrev pub located : PacketHeader → List Peak → ℕ → PeakList
-located h peaks next =
-    record { at = next - length peaks * itemSize (isWide (h .layout)); count = length peaks; wide = isWide (h .layout); next = next }
+abbrev pub countWord : PacketHeader → ℕ
+countWord h = cond (eqb (h .«peak_list_size») 0) 0 4
+
+-- how many bytes it takes
+abbrev pub listSize : PacketHeader → List Peak → ℕ
+listSize h peaks = countWord h + length peaks * itemSize (isWide (h .layout))
+
+-- where the peaks of the list at `at` stand, which ends at `next`
+abbrev pub located : PacketHeader → ℕ → List Peak → ℕ → PeakList
+located h at peaks next = record { at = at + countWord h; count = length peaks; wide = isWide (h .layout); next = next }
 
 -- what `read_peaks` answers
 unfoldable pub readPeaks : PacketHeader → ℕ → List ℕ → Outcome PeakList
-readPeaks h at run = outcome (single 4 at (peakList h) (λ peaks next. ok (located h peaks next))) run
+readPeaks h at run = outcome (single 4 at (peakList h) (λ peaks next. ok (located h at peaks next))) run
 
 abbrev pub toldList : PeakListAnswer → Outcome PeakList
 toldList (list.List l) = ok l
@@ -56,12 +63,16 @@ skipping = do
   peaks ← peakList h
   done (h, peaks)
 
--- what `skip_to_peaks` answers
-abbrev pub both : PacketHeader × List Peak → ℕ → HeaderAndPeaks
-both p next = record { header = p .0; list = located (p .0) (p .1) next }
+-- the list's place, behind a profile that is passed over in the packet at `at`
+abbrev pub behindSkipped : PacketHeader → ℕ → ℕ
+behindSkipped h at = at + 40 + h .«profile_size» * 4
 
+abbrev pub both : ℕ → PacketHeader × List Peak → ℕ → HeaderAndPeaks
+both at p next = record { header = p .0; list = located (p .0) (behindSkipped (p .0) at) (p .1) next }
+
+-- what `skip_to_peaks` answers
 unfoldable pub skipToPeaks : ℕ → List ℕ → Outcome HeaderAndPeaks
-skipToPeaks at run = outcome (single 4 at skipping (λ p next. ok (both p next))) run
+skipToPeaks at run = outcome (single 4 at skipping (λ p next. ok (both at p next))) run
 
 abbrev pub toldSkipped : SkippedAnswer → Outcome HeaderAndPeaks
 toldSkipped (skipped.Packet p) = ok p
@@ -69,4 +80,4 @@ toldSkipped (skipped.Refused r) = toldRefusal r
 
 -- what `read_peaks_only` answers, where so many masses and abundances are lent
 unfoldable pub readPeaksOnly : ℕ → ℕ → ℕ → List ℕ → Outcome (List Peak)
-readPeaksOnly mz abundance at run = outcome (single 4 at skipping (λ p _. handOut mz abundance (p .1))) run
+readPeaksOnly mz abundance at run = outcome (single 4 at skipping (λ p _. handOutPairs mz abundance (p .1))) run

@@ -1,15 +1,14 @@
 // The centroid peak list of a packet (`read_peaks` and `read_peaks_only` of scan_data.rs).
 ghost use mathlib.Core.Path.{_≡_};
 ghost use Prim.Native.Nat.{_≤_};
-ghost use lib.ListN.{length};
-ghost use Rattle.peaks.specs.Peaks.{result, leaves};
+ghost use Rattle.lists.specs.Left.{LeftPairs};
 ghost use Rattle.peak_list.specs.PeakList.{isWide, itemSize, readPeaks, toldList, skipToPeaks, toldSkipped, readPeaksOnly};
 use packet_header::HeaderAnswer;
 use packet_header::PacketHeader;
-use peaks::PeaksAnswer;
 use peaks::hand_out;
 use reader::remaining;
 use reader::u32_at;
+use refusal::CountAnswer;
 use refusal::Part;
 use refusal::Refusal;
 
@@ -98,11 +97,11 @@ pub fn skip_to_peaks(run: &[u8], at: u64) -> SkippedAnswer
 }
 
 // The peaks of the packet at a place of the run, and nothing else of it.
-pub fn read_peaks_only(run: &[u8], at: u64, mz: &mut [u64], abundance: &mut [u32]) -> PeaksAnswer
-    ensures { λ r. ⌜ result r (now (mz .exit)) (now (abundance .exit)) ≡ leaves (readPeaksOnly (length (now (mz .entry))) (length (now (abundance .entry))) at (now (run .entry))) (now (mz .entry)) (now (abundance .entry)) ⌝ }
+pub fn read_peaks_only(run: &[u8], at: u64, mz: &mut [u64], abundance: &mut [u32]) -> CountAnswer
+    ensures { λ r. ⌜ LeftPairs (λ m a. readPeaksOnly m a at (now (run .entry))) (now (mz .entry)) (now (abundance .entry)) r (now (mz .exit)) (now (abundance .exit)) ⌝ }
 {
     match skip_to_peaks(run, at) {
-        SkippedAnswer::Refused(r) => PeaksAnswer::Refused(r),
+        SkippedAnswer::Refused(r) => CountAnswer::Refused(r),
         SkippedAnswer::Packet(p) => {
             let list = p.list;
             hand_out(

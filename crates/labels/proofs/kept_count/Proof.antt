@@ -1,5 +1,4 @@
 -- `labels::kept_count` meets its contract.
--- Assumes nothing.
 use native.Mathlib.Omega.{arith}
 use Rattle.labels.proofs.Streams.{is-kept, no-peaks, other-size}
 use Rattle.labels.proofs.kept_count.Statement.{statement}

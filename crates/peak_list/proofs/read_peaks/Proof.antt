@@ -1,5 +1,4 @@
 -- `peak_list::read_peaks` meets its contract: each way out is decided by the tests that led there.
--- Assumes nothing.
 use native.Mathlib.Nat.{mul-le-mul-left}
 use native.Mathlib.Omega.{arith}
 use denote.Ref.{now}
@@ -8,43 +7,13 @@ use borrow.Author.Needs.{needs}
 use Rattle.peak_list.proofs.read_peaks.Statement.{statement}
 use Rattle.peak_list.proofs.read_peaks.Tie as tie
 
-is-wide-requires : tie.Need-is-wide-requires
-is-wide-requires c κs = search needs
-
 returns : tie.Need-returns
 returns c =
     let a = c .before .before .before .before .args in
     no-list (a .h) (now (a .run)) (a .at) _ (c .before .before .is-wide .ensures) (c .if1 .taken)
 
-remaining-requires : tie.Need-remaining-requires
-remaining-requires c κs = search needs
-
-u32-at-requires : tie.Need-u32-at-requires
-u32-at-requires c κs = search needs
-
-cast-n : tie.Need-cast-n
-cast-n c = search needs
-
-item-size-requires : tie.Need-item-size-requires
-item-size-requires c κs = search needs
-
 mul-all : tie.Need-mul-all
 mul-all c = omega (arith, mul-le-mul-left (c .before .u32-at .result) (c .item-size .ensures .1))
-
-add-remaining : tie.Need-add-remaining
-add-remaining c = search needs
-
-remaining-requires-2 : tie.Need-remaining-requires-2
-remaining-requires-2 c κs = search needs
-
-add-t14 : tie.Need-add-t14
-add-t14 c = search needs
-
-add-t15 : tie.Need-add-t15
-add-t15 c = search needs
-
-add-t16 : tie.Need-add-t16
-add-t16 c = search needs
 
 returns-2 : tie.Need-returns-2
 returns-2 c =
@@ -67,18 +36,18 @@ pub read-peaks-spec : {M : Type 1} → statement M
 read-peaks-spec =
     tie.close
     (tie.spec
-    is-wide-requires
+    (search needs)
     returns
-    remaining-requires
-    u32-at-requires
-    cast-n
-    item-size-requires
+    (search needs)
+    (search needs)
+    (search needs)
+    (search needs)
     mul-all
-    add-remaining
-    remaining-requires-2
-    add-t14
-    add-t15
-    add-t16
+    (search needs)
+    (search needs)
+    (search needs)
+    (search needs)
+    (search needs)
     returns-2
     returns-3
     returns-4)

@@ -1,5 +1,4 @@
 -- `peak_list::skip_to_peaks` meets its contract: the header, the profile that is passed over, and the list.
--- Assumes nothing.
 use mathlib.Core.Path.{sym, ap, _∙_}
 use native.Mathlib.Omega.{arith}
 use denote.Ref.{now}
@@ -11,33 +10,15 @@ use borrow.Author.Needs.{needs}
 use Rattle.peak_list.proofs.skip_to_peaks.Statement.{statement}
 use Rattle.peak_list.proofs.skip_to_peaks.Tie as tie
 
-read-requires : tie.Need-read-requires
-read-requires c κs = search needs
-
-enum-known-h : tie.Need-enum-known-h
-enum-known-h c = search needs
-
-enum-told : tie.Need-enum-told
-enum-told c = search needs
-
 returns : tie.Need-returns
 returns c =
     let a = c .before .before .before .before .args in
     skip-header-short (now (a .run)) (a .at) (sym (ap told (c .enum-told .given .1)) ∙ c .before .before .read .ensures)
 
-cast-profile : tie.Need-cast-profile
-cast-profile c = search needs
-
-mul-profile : tie.Need-mul-profile
-mul-profile c = search needs
-
 add-remaining : tie.Need-add-remaining
 add-remaining c =
     let a = c .before .before .before .before .before .before .args in
     omega (arith, header-read (now (a .run)) (a .at) (sym (ap told (c .before .before .h .given .1)) ∙ c .before .before .before .before .read .ensures) .0)
-
-remaining-requires : tie.Need-remaining-requires
-remaining-requires c κs = search needs
 
 add-read-peaks : tie.Need-add-read-peaks
 add-read-peaks c =
@@ -48,15 +29,6 @@ add-read-peaks-2 : tie.Need-add-read-peaks-2
 add-read-peaks-2 c =
     let a = c .before .before .before .before .before .before .before .before .args in
     omega (arith, header-read (now (a .run)) (a .at) (sym (ap told (c .before .before .before .before .h .given .1)) ∙ c .before .before .before .before .before .before .read .ensures) .0)
-
-read-peaks-requires : tie.Need-read-peaks-requires
-read-peaks-requires c κs = search needs
-
-enum-known-list : tie.Need-enum-known-list
-enum-known-list c = search needs
-
-enum-told-2 : tie.Need-enum-told-2
-enum-told-2 c = search needs
 
 returns-2 : tie.Need-returns-2
 returns-2 c =
@@ -77,19 +49,19 @@ pub skip-to-peaks-spec : {M : Type 1} → statement M
 skip-to-peaks-spec =
     tie.close
     (tie.spec
-    read-requires
-    enum-known-h
-    enum-told
+    (search needs)
+    (search needs)
+    (search needs)
     returns
-    cast-profile
-    mul-profile
+    (search needs)
+    (search needs)
     add-remaining
-    remaining-requires
+    (search needs)
     add-read-peaks
     add-read-peaks-2
-    read-peaks-requires
-    enum-known-list
-    enum-told-2
+    (search needs)
+    (search needs)
+    (search needs)
     returns-2
     returns-3
     returns-4)
