@@ -1,5 +1,4 @@
 -- What reading an event below version 66 answers, by the tests that decide it.
--- Assumes nothing.
 use mathlib.Core.Path.{_≡_, refl, sym, subst, _∙_}
 use mathlib.Core.Logic.{⊎-elim}
 use Prim.Native.Nat.{ℕ, _+_, _*_, _≤_, _<_}
@@ -12,14 +11,15 @@ use Rattle.refusal.specs.Outcome.{ok, refused, ranOut}
 use Rattle.lists.specs.Written.{each}
 use Rattle.lists.proofs.Cases.{le-or-lt}
 use Rattle.parser.specs.Parser.{Parser, done, short, parsed, within, parse, bytes, le, left, _>>=_}
-use Rattle.parser.specs.Call.{outcome}
+use Rattle.parser.specs.Call.{outcome, partAt}
 use Rattle.parser.proofs.Fixed.{parse-stage}
 use Rattle.parser.proofs.Answered.{ran-out}
 use Rattle.preamble.specs.Size.{sizeForVersion}
-use Rattle.scan_event.specs.Event.{Event, handOut}
-use Rattle.scan_event.specs.declared.Lent.{Lent}
-use Rattle.event_before_66.specs.Layout.{head, Middle, middle, tail, event, before66, sizesOf, findSizes, readBefore66}
-use Rattle.event_before_66.specs.Places.{reactionsAt, coefficientsAt, end, eventAt}
+use Rattle.scan_event.specs.Event.{Event}
+use Rattle.scan_event.specs.Places.{eventAt as found}
+use Rattle.scan_event.specs.declared.Places.{Places}
+use Rattle.event_before_66.specs.Layout.{head, Middle, middle, tail, event, before66, sizesOf, findSizes}
+use Rattle.event_before_66.specs.Places.{reactionsAt, coefficientsAt, end, eventAt, Placed}
 use Rattle.event_before_66.specs.declared.Sizes.{Sizes}
 use Rattle.event_before_66.proofs.Lengths.{preamble-length, reactions-length, coefficients-length}
 use Rattle.event_before_66.proofs.Stages.{head-sized, middle-sized, tail-sized, head-value, middle-value, tail-value}
@@ -149,12 +149,12 @@ stands version s at {z} e =
     never : ok z ≡ ranOut 3 → Stands version s at z
     never h = let c : _≡_ {A = ℕ} 0 1 = cc in absurd (omega arith)
 
--- and the answer
-module _ (version : ℕ) (lent : Lent) (s : List ℕ) (at : ℕ) where
-  pub no-event : {n : ℕ} {carries : List ℕ} → refused n carries ≡ findSizes version at s → refused n carries ≡ readBefore66 version lent at s
-  unfolding findSizes readBefore66 outcome
+-- and what stands there
+module _ (version : ℕ) (s : List ℕ) (at : ℕ) where
+  pub no-event : {n : ℕ} {carries : List ℕ} → refused n carries ≡ findSizes version at s → refused n carries ≡ partAt 3 at (before66 version) s
+  unfolding findSizes partAt
   no-event e = let r = ran-out 3 at (before66 version) (λ (v : Event) _. sizesOf v) s e in rw (r .one, r .part, r .there)
 
-  pub whole : {z : Sizes} → ok z ≡ findSizes version at s → handOut lent (eventAt at z s) (end at z) ≡ readBefore66 version lent at s
-  unfolding readBefore66 outcome
-  whole e = rw (stands version s at e .there)
+  pub whole : {z : Sizes} {p : Places} → ok z ≡ findSizes version at s → Placed s at z p → ok (found s p, p .next) ≡ partAt 3 at (before66 version) s
+  unfolding partAt
+  whole e p = rw (p .event, p .next, stands version s at e .there)

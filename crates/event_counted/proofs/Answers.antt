@@ -1,53 +1,77 @@
--- What reading a counted event answers, by the tests that decide it.
--- Assumes nothing.
-use mathlib.Core.Path.{_≡_}
+-- What stands at a place that holds a counted event, by the tests that decide it.
+use mathlib.Core.Path.{_≡_, refl}
 use Prim.Native.Nat.{ℕ, _+_, _≤_, _<_}
 use native.Mathlib.Omega.{arith}
 use mathlib.Core.Bool.{Bool, true, false, cond}
 use mathlib.Core.List.{List, []}
 use borrow.Author.Tests.{le-leb, lt-leb}
-use Rattle.refusal.specs.Outcome.{ok, refused, ranOut}
-use Rattle.parser.specs.Parser.{parse, bytes, le, left}
-use Rattle.parser.specs.Call.{outcome}
+use Rattle.refusal.specs.Outcome.{Outcome, ok, refused, ranOut, onOk, andThen}
+use Rattle.parser.specs.Parser.{Parsed, short, parsed, parse, bytes, le, left}
+use Rattle.parser.specs.Call.{onward, outcome}
 use Rattle.preamble.specs.Settings.{isPrimary}
-use Rattle.scan_event.specs.Event.{handOut}
+use Rattle.scan_event.specs.Event.{Event, handOut}
+use Rattle.scan_event.specs.Places.{eventIn, toldPlaces}
 use Rattle.scan_event.specs.declared.Lent.{Lent}
-use Rattle.event_counted.specs.Layout.{_andThen_, judgeRecords, kept, countedEvent, bodyOutcome, counted, readCounted}
+use Rattle.scan_event.specs.declared.Lists.{Lists}
+use Rattle.scan_event.specs.declared.PlacesAnswer.the-variants.{At}
+use Rattle.scan_event.proofs.HandOut.{thenHandOut}
+use Rattle.event_counted.specs.Layout.{judgeRecords, kept, countedEvent, bodyEvent, counted, findCounted, readCounted}
 
-module _ (size : ℕ) (lent : Lent) (s : List ℕ) (at : ℕ) where
-  pub short-preamble : left s at < 136 → ranOut 3 ≡ readCounted size lent at s
-  unfolding readCounted outcome counted parse
+module _ (size : ℕ) (s : List ℕ) (at : ℕ) where
+  pub short-preamble : left s at < 136 → ranOut 3 ≡ findCounted size at s
+  unfolding findCounted outcome counted parse
   short-preamble t = rw (lt-leb _ _ t)
 
   module _ (t : 136 ≤ left s at) where
-    pub short-body : left s (at + 136) < size → ranOut 3 ≡ readCounted size lent at s
-    unfolding readCounted outcome counted parse
+    pub short-body : left s (at + 136) < size → ranOut 3 ≡ findCounted size at s
+    unfolding findCounted outcome counted parse
     short-body u = rw (le-leb _ _ t, lt-leb _ _ u)
 
-    pub whole : size ≤ left s (at + 136)
-        → bodyOutcome lent (at + 136) (bytes s at 136) (bytes s (at + 136) size) (at + 136 + size) ≡ readCounted size lent at s
-    unfolding readCounted outcome counted parse
-    whole u = rw (le-leb _ _ t, le-leb _ _ u)
+    module _ (u : size ≤ left s (at + 136)) where
+      whole : onOk (λ e. (e, at + 136 + size)) (bodyEvent (at + 136) (bytes s at 136) (bytes s (at + 136) size)) ≡ findCounted size at s
+      unfolding findCounted outcome counted parse
+      whole = rw (le-leb _ _ t, le-leb _ _ u)
 
-module _ (lent : Lent) (start : ℕ) (preamble body : List ℕ) (next : ℕ) where
-  pub no-count : left body 0 < 4 → refused 4 [] ≡ bodyOutcome lent start preamble body next
-  unfolding bodyOutcome
+      -- the same, from what the code has in hand
+      module _ {pre body : List ℕ} (hp : pre ≡ bytes s at 136) (hb : body ≡ bytes s (at + 136) size) where
+        pub wrong : {n : ℕ} {carries : List ℕ} → refused n carries ≡ bodyEvent (at + 136) pre body → refused n carries ≡ findCounted size at s
+        wrong h = rw (← whole, ← hp, ← hb, ← h)
+
+        pub found : (j : Lists) → ok (eventIn pre body j) ≡ bodyEvent (at + 136) pre body
+            → toldPlaces s (At (record { preamble = at; «preamble_len» = 136; body = at + 136; «body_len» = size; lists = j; next = at + 136 + size })) ≡ findCounted size at s
+        found j h = rw (← whole, ← hp, ← hb, ← h)
+
+-- the reader is what was found, and then the room
+pub counted-then : (size : ℕ) (lent : Lent) (at : ℕ) (s : List ℕ) → thenHandOut (findCounted size at s) lent ≡ readCounted size lent at s
+unfolding findCounted readCounted outcome
+counted-then size lent at s = go (parse (counted size) s at)
+  where
+    same : (o : Outcome Event) (next : ℕ) → thenHandOut (onOk (λ e. (e, next)) o) lent ≡ andThen o (λ e. handOut lent e next)
+    same (ok e) next = refl
+    same (refused n carries) next = refl
+
+    go : (o : Parsed (List ℕ × List ℕ)) → thenHandOut (onward 3 o (λ parts next. onOk (λ e. (e, next)) (bodyEvent (at + 136) (parts .0) (parts .1)))) lent
+        ≡ onward 3 o (λ parts next. andThen (bodyEvent (at + 136) (parts .0) (parts .1)) (λ e. handOut lent e next))
+    go short = refl
+    go (parsed parts next) = same (bodyEvent (at + 136) (parts .0) (parts .1)) next
+
+module _ (start : ℕ) (preamble body : List ℕ) where
+  pub no-count : left body 0 < 4 → refused 4 [] ≡ bodyEvent start preamble body
+  unfolding bodyEvent
   no-count t = rw (lt-leb _ _ t)
 
   by-records : 4 ≤ left body 0 → (count : ℕ) → count ≡ le (bytes body 0 4)
-      → (judgeRecords start body (kept preamble count) andThen handOut lent (countedEvent preamble body count) next)
-      ≡ bodyOutcome lent start preamble body next
-  unfolding bodyOutcome
+      → andThen (judgeRecords start body (kept preamble count)) (λ _. ok (countedEvent preamble body count)) ≡ bodyEvent start preamble body
+  unfolding bodyEvent
   by-records t count e = rw (le-leb _ _ t, ← e)
 
-  module _ (t : 4 ≤ left body 0) (count : ℕ) (e : count ≡ le (bytes body 0 4)) where
-    pub wrong-record : {number : ℕ} {carries : List ℕ} → judgeRecords start body (kept preamble count) ≡ refused number carries
-        → refused number carries ≡ bodyOutcome lent start preamble body next
-    wrong-record h = rw h at (by-records t count e)
+  module _ (t : 4 ≤ left body 0) (count : ℕ) (e : count ≡ le (bytes body 0 4)) {n : ℕ} (k : n ≡ kept preamble count) where
+    pub wrong-record : {number : ℕ} {carries : List ℕ} → refused number carries ≡ judgeRecords start body n
+        → refused number carries ≡ bodyEvent start preamble body
+    wrong-record h = rw (← k, ← h) at (by-records t count e)
 
-    pub sound-records : judgeRecords start body (kept preamble count) ≡ ok tt
-        → handOut lent (countedEvent preamble body count) next ≡ bodyOutcome lent start preamble body next
-    sound-records h = rw h at (by-records t count e)
+    pub sound-records : ok tt ≡ judgeRecords start body n → ok (countedEvent preamble body count) ≡ bodyEvent start preamble body
+    sound-records h = rw (← k, ← h) at (by-records t count e)
 
 kept-by : (b : Bool) (count : ℕ) → cond b 0 count ≤ count
 kept-by true count = omega arith

@@ -3,9 +3,9 @@ use Prim.Native.Nat.{ℕ, zero, suc, _+_, _*_}
 use mathlib.Core.Bool.{cond}
 use mathlib.Core.List.{List, [], _∷_}
 use lib.Dec.{leb}
-use Rattle.refusal.specs.Outcome.{Outcome, ok, refused}
+use Rattle.refusal.specs.Outcome.{Outcome, ok, refused, onOk, andThen}
 use Rattle.lists.specs.Written.{each}
-use Rattle.parser.specs.Parser.{Parser, done, _>>=_, raw, bytes, le, left}
+use Rattle.parser.specs.Parser.{Parser, done, raw, bytes, le, left, _>>=_}
 use Rattle.parser.specs.Call.{outcome, single}
 use Rattle.preamble.specs.Settings.{isPrimary}
 use Rattle.window.specs.Window.{windowAt, endBits}
@@ -27,16 +27,10 @@ judgeRecord start body i =
     (refused 3 ((start + recordAt i) ∷ bitsAt body (recordAt i) ∷ [])))
     (refused 4 [])
 
--- a refusal stands before what follows
-infixl 20 _andThen_
-abbrev pub _andThen_ : {A : Type 0} → Outcome (Unit {0}) → Outcome A → Outcome A
-_andThen_ (ok t) next = next
-_andThen_ (refused number carries) next = refused number carries
-
--- the first n records
+-- the first n records, one after the other
 unfoldable pub judgeRecords : ℕ → List ℕ → ℕ → Outcome (Unit {0})
 judgeRecords start body zero = ok tt
-judgeRecords start body (suc n) = judgeRecords start body n andThen judgeRecord start body n
+judgeRecords start body (suc n) = andThen (judgeRecords start body n) (λ _. judgeRecord start body n)
 
 -- a primary event's records are neither judged nor kept
 abbrev pub kept : List ℕ → ℕ → ℕ
@@ -54,13 +48,11 @@ countedEvent preamble body count =
       coefficients = coefficients body (place + 16);
     }
 
--- the body that starts at `start` and ends at `next`
-unfoldable pub bodyOutcome : Lent → ℕ → List ℕ → List ℕ → ℕ → Outcome Decoded
-bodyOutcome lent start preamble body next =
+-- the event of a body that starts at `start`
+unfoldable pub bodyEvent : ℕ → List ℕ → List ℕ → Outcome Event
+bodyEvent start preamble body =
     let count = le (bytes body 0 4) in
-    cond (leb 4 (left body 0))
-    (judgeRecords start body (kept preamble count) andThen handOut lent (countedEvent preamble body count) next)
-    (refused 4 [])
+    cond (leb 4 (left body 0)) (andThen (judgeRecords start body (kept preamble count)) (λ _. ok (countedEvent preamble body count))) (refused 4 [])
 
 unfoldable pub counted : ℕ → Parser (List ℕ × List ℕ)
 counted size = do
@@ -68,6 +60,11 @@ counted size = do
   body ← raw size
   done (preamble, body)
 
+-- the event at a place, and the place behind it
+unfoldable pub findCounted : ℕ → ℕ → List ℕ → Outcome (Event × ℕ)
+findCounted size at run = outcome (single 3 at (counted size) (λ parts next. onOk (λ e. (e, next)) (bodyEvent (at + 136) (parts .0) (parts .1)))) run
+
 -- what `read_counted_v66` answers
 unfoldable pub readCounted : ℕ → Lent → ℕ → List ℕ → Outcome Decoded
-readCounted size lent at run = outcome (single 3 at (counted size) (λ parts next. bodyOutcome lent (at + 136) (parts .0) (parts .1) next)) run
+readCounted size lent at run =
+    outcome (single 3 at (counted size) (λ parts next. andThen (bodyEvent (at + 136) (parts .0) (parts .1)) (λ e. handOut lent e next))) run

@@ -1,26 +1,24 @@
 // Scan events of version 66 whose body starts with its reaction count (`read_counted_v66` of scan_event.rs).
 ghost use mathlib.Core.Path.{_≡_};
 ghost use Prim.Native.Nat.{_+_, _^_, _<_};
-ghost use Rattle.lists.specs.Written.{fitting};
-ghost use Rattle.reaction.specs.Reactions.{precursors as precursorsOf, energies as energiesOf};
-ghost use Rattle.scan_event.specs.Event.{handOut, result, resultOf};
-ghost use Rattle.event_counted.specs.Layout.{judgeRecord, judgeRecords, kept, countedEvent, bodyOutcome, readCounted};
-ghost use Rattle.event_counted.specs.Judged.{toldRecords, judgedOf};
+ghost use Rattle.scan_event.specs.Event.{slices, Answers};
+ghost use Rattle.scan_event.specs.Places.{eventIn, toldPlaces};
+ghost use Rattle.event_counted.specs.Layout.{judgeRecord, judgeRecords, kept, countedEvent, bodyEvent, findCounted, readCounted};
+ghost use Rattle.event_counted.specs.Judged.{toldRecords, sourceOf, toldBody};
 use coefficient::coefficient_count;
 use preamble::is_primary;
+use reaction::Source;
 use reaction::acceptable;
-use reader::copy_bytes;
-use reader::copy_u64s;
 use reader::remaining;
 use reader::u32_at;
 use reader::u64_at;
 use refusal::Part;
 use refusal::Refusal;
 use scan_event::EventAnswer;
-use scan_event::Judged;
-use scan_event::Lent;
-use scan_event::describe;
-use scan_event::has_room;
+use scan_event::Lists;
+use scan_event::Places;
+use scan_event::PlacesAnswer;
+use scan_event::write_event;
 use window::end_bits;
 use window::plausible_window;
 
@@ -78,130 +76,85 @@ fn kept_count(bytes: &[u8], count: u64) -> u64
     count
 }
 
-// What the lists of a body are, before anything is written.
-fn judge(bytes: &[u8], body: &[u8], count: u64) -> Judged
+// Where the reactions stand, whose records are sound: precursors from 4 on, 56 bytes apart.
+fn reactions_of(bytes: &[u8], count: u64) -> Source
+    ensures { λ r. ⌜ r ≡ sourceOf (kept (now (bytes .entry)) count) ⌝ }
+{
+    let n = kept_count(bytes, count);
+    Source::Every {
+        from: 4,
+        stride: 56,
+        count: n,
+    }
+}
+
+// Where the lists of a body stand, and its window.
+fn judge(bytes: &[u8], body: &[u8], count: u64) -> Lists
     requires { ⌜ count < 2 ^ 32 ⌝ }
-    ensures { λ r. ⌜ r ≡ judgedOf (now (bytes .entry)) (now (body .entry)) count ⌝ }
+    ensures { λ r. ⌜ eventIn (now (bytes .entry)) (now (body .entry)) r ≡ countedEvent (now (bytes .entry)) (now (body .entry)) count ⌝ }
 {
     let place = count * 56 + 8;
     let window = plausible_window(body, place);
-    Judged {
+    Lists {
+        reactions: reactions_of(bytes, count),
+        coefficients_at: place + 16 + 4,
+        coefficients: coefficient_count(body, place + 16),
         window,
         low: end_bits(window, body, place),
         high: end_bits(window, body, place + 8),
-        from: place + 16 + 4,
-        reactions: kept_count(bytes, count),
-        coefficients: coefficient_count(body, place + 16),
     }
 }
 
-// The event's lists, over the fronts of the lent slices.
-fn write_lists(
-    bytes: &[u8],
-    body: &[u8],
-    count: u64,
-    j: Judged,
-    preamble: &mut [u8],
-    precursors: &mut [u64],
-    energies: &mut [u64],
-    coefficients: &mut [u64],
-)
-    requires { ⌜ j ≡ judgedOf (now bytes) (now body) count ⌝ }
-    ensures { λ _. ⌜ now (preamble .exit) ≡ fitting (countedEvent (now (bytes .entry)) (now (body .entry)) count .preamble) (now (preamble .entry)) ⌝ }
-    ensures { λ _. ⌜ now (precursors .exit) ≡ fitting (precursorsOf (countedEvent (now (bytes .entry)) (now (body .entry)) count .reactions)) (now (precursors .entry)) ⌝ }
-    ensures { λ _. ⌜ now (energies .exit) ≡ fitting (energiesOf (countedEvent (now (bytes .entry)) (now (body .entry)) count .reactions)) (now (energies .entry)) ⌝ }
-    ensures { λ _. ⌜ now (coefficients .exit) ≡ fitting (countedEvent (now (bytes .entry)) (now (body .entry)) count .coefficients) (now (coefficients .entry)) ⌝ }
-{
-    copy_bytes(bytes, 0, bytes.len() as u64, preamble);
-    copy_u64s(body, 4, 56, j.reactions, precursors);
-    copy_u64s(body, 20, 56, j.reactions, energies);
-    copy_u64s(body, j.from, 8, j.coefficients, coefficients);
+// What a body holds that starts at `start` of the run.
+enum BodyAnswer {
+    Holds(Lists),
+    Refused(Refusal),
 }
 
-// The event of a preamble and a body whose records are sound.
-fn hand_out(
-    bytes: &[u8],
-    body: &[u8],
-    count: u64,
-    next: u64,
-    preamble: &mut [u8],
-    precursors: &mut [u64],
-    energies: &mut [u64],
-    coefficients: &mut [u64],
-) -> EventAnswer
-    requires { ⌜ count < 2 ^ 32 ⌝ }
-    ensures { λ r. ⌜ result r (now (preamble .exit)) (now (precursors .exit)) (now (energies .exit)) (now (coefficients .exit))
-        ≡ resultOf (λ lent. handOut lent (countedEvent (now (bytes .entry)) (now (body .entry)) count) next) (now (preamble .entry)) (now (precursors .entry)) (now (energies .entry)) (now (coefficients .entry)) ⌝ }
-{
-    let j = judge(bytes, body, count);
-    let lent = Lent {
-        preamble: preamble.len() as u64,
-        precursors: precursors.len() as u64,
-        energies: energies.len() as u64,
-        coefficients: coefficients.len() as u64,
-    };
-    if has_room(lent, bytes.len() as u64, j.reactions, j.coefficients) {
-        write_lists(
-            bytes,
-            body,
-            count,
-            j,
-            preamble,
-            precursors,
-            energies,
-            coefficients,
-        );
-        let n = j.reactions as usize;
-        let window = j.window;
-        return EventAnswer::Event(describe(
-            bytes,
-            &precursors[0..n],
-            j.coefficients,
-            window,
-            j.low,
-            j.high,
-            next,
-        ));
-    }
-    EventAnswer::Refused(Refusal::NoRoom)
-}
-
-// The event of a preamble and a body that starts at `start` of the run.
-fn decode(
-    start: u64,
-    bytes: &[u8],
-    body: &[u8],
-    next: u64,
-    preamble: &mut [u8],
-    precursors: &mut [u64],
-    energies: &mut [u64],
-    coefficients: &mut [u64],
-) -> EventAnswer
+fn judge_body(start: u64, bytes: &[u8], body: &[u8]) -> BodyAnswer
     requires { ⌜ start < 2 ^ 63 + 2 ^ 32 ⌝ }
-    ensures { λ r. ⌜ result r (now (preamble .exit)) (now (precursors .exit)) (now (energies .exit)) (now (coefficients .exit))
-        ≡ resultOf (λ lent. bodyOutcome lent start (now (bytes .entry)) (now (body .entry)) next) (now (preamble .entry)) (now (precursors .entry)) (now (energies .entry)) (now (coefficients .entry)) ⌝ }
+    ensures { λ r. ⌜ toldBody (now (bytes .entry)) (now (body .entry)) r ≡ bodyEvent start (now (bytes .entry)) (now (body .entry)) ⌝ }
 {
     if 4 <= remaining(body, 0) {
         let count = u32_at(body, 0) as u64;
         match judge_records(start, body, kept_count(bytes, count)) {
             Records::Refused(r) => {
-                return EventAnswer::Refused(r);
+                return BodyAnswer::Refused(r);
             }
             Records::Sound => {
-                return hand_out(
-                    bytes,
-                    body,
-                    count,
-                    next,
-                    preamble,
-                    precursors,
-                    energies,
-                    coefficients,
-                );
+                return BodyAnswer::Holds(judge(bytes, body, count));
             }
         }
     }
-    EventAnswer::Refused(Refusal::BodyTooShort)
+    BodyAnswer::Refused(Refusal::BodyTooShort)
+}
+
+// The event at a place of the run, found and not handed out.
+fn find_counted(run: &[u8], at: u64, body_size: u32) -> PlacesAnswer
+    ensures { λ r. ⌜ toldPlaces (now (run .entry)) r ≡ findCounted «body_size» at (now (run .entry)) ⌝ }
+{
+    if 136 <= remaining(run, at) {
+        let from = at as usize;
+        let middle = from + 136;
+        let size = body_size as u64;
+        if size <= remaining(run, at + 136) {
+            let to = middle + body_size as usize;
+            match judge_body(at + 136, &run[from..middle], &run[middle..to]) {
+                BodyAnswer::Refused(r) => return PlacesAnswer::Refused(r),
+                BodyAnswer::Holds(lists) => {
+                    return PlacesAnswer::At(Places {
+                        preamble: at,
+                        preamble_len: 136,
+                        body: at + 136,
+                        body_len: size,
+                        lists,
+                        next: at + 136 + size,
+                    });
+                }
+            }
+        }
+    }
+    PlacesAnswer::Refused(Refusal::Short(Part::Event))
 }
 
 pub fn read_counted_v66(
@@ -213,26 +166,12 @@ pub fn read_counted_v66(
     energies: &mut [u64],
     coefficients: &mut [u64],
 ) -> EventAnswer
-    ensures { λ r. ⌜ result r (now (preamble .exit)) (now (precursors .exit)) (now (energies .exit)) (now (coefficients .exit))
-        ≡ resultOf (λ lent. readCounted «body_size» lent at (now (run .entry))) (now (preamble .entry)) (now (precursors .entry)) (now (energies .entry)) (now (coefficients .entry)) ⌝ }
+    ensures { λ r. ⌜ Answers (λ lent. readCounted «body_size» lent at (now (run .entry)))
+        (slices (now (preamble .entry)) (now (precursors .entry)) (now (energies .entry)) (now (coefficients .entry)))
+        r (slices (now (preamble .exit)) (now (precursors .exit)) (now (energies .exit)) (now (coefficients .exit))) ⌝ }
 {
-    if 136 <= remaining(run, at) {
-        let from = at as usize;
-        let middle = from + 136;
-        let size = body_size as u64;
-        if size <= remaining(run, at + 136) {
-            let to = middle + body_size as usize;
-            return decode(
-                at + 136,
-                &run[from..middle],
-                &run[middle..to],
-                at + 136 + size,
-                preamble,
-                precursors,
-                energies,
-                coefficients,
-            );
-        }
+    match find_counted(run, at, body_size) {
+        PlacesAnswer::Refused(r) => EventAnswer::Refused(r),
+        PlacesAnswer::At(p) => { write_event(run, p, preamble, precursors, energies, coefficients) }
     }
-    EventAnswer::Refused(Refusal::Short(Part::Event))
 }

@@ -1,39 +1,43 @@
--- What reading an event from version 66 on answers, by the tests that decide it.
--- Assumes nothing.
+-- What stands at a place from version 66 on, by the tests that decide it.
 use mathlib.Core.Path.{_≡_}
 use Prim.Native.Nat.{ℕ, _+_, _-_, _≤_, _<_}
+use native.Mathlib.Omega.{arith}
 use mathlib.Core.Bool.{Bool, _&&_, not, cond}
 use mathlib.Core.List.{List}
 use lib.Dec.{eqb}
 use Rattle.preamble.specs.Settings.{isPrimary}
 use borrow.Author.Tests.{le-leb, lt-leb}
-use Rattle.refusal.specs.Outcome.{ranOut}
+use Rattle.refusal.specs.Outcome.{ok, ranOut}
 use Rattle.parser.specs.Parser.{parse, bytes, left}
-use Rattle.parser.specs.Call.{outcome}
-use Rattle.scan_event.specs.Event.{handOut}
-use Rattle.scan_event.specs.declared.Lent.{Lent}
-use Rattle.event_from_66.specs.Layout.{bodySize, isTribrid, eventOf, from66, readFrom66}
+use Rattle.parser.specs.Call.{partAt}
+use Rattle.scan_event.specs.Places.{eventIn, toldPlaces}
+use Rattle.scan_event.specs.declared.Lists.{Lists}
+use Rattle.scan_event.specs.declared.PlacesAnswer.the-variants.{At}
+use Rattle.event_from_66.specs.Layout.{bodySize, isTribrid, eventOf, from66}
 
-module _ (primary dependent : ℕ) (lent : Lent) (s : List ℕ) (at : ℕ) where
-  pub short-preamble : left s at < 136 → ranOut 3 ≡ readFrom66 primary dependent lent at s
-  unfolding readFrom66 outcome from66 parse
+module _ (primary dependent : ℕ) (s : List ℕ) (at : ℕ) where
+  pub short-preamble : left s at < 136 → ranOut 3 ≡ partAt 3 at (from66 primary dependent) s
+  unfolding partAt from66 parse
   short-preamble t = rw (lt-leb _ _ t)
 
-  module _ (t : 136 ≤ left s at) (size : ℕ) (e : size ≡ bodySize (bytes s at 136) primary dependent) where
-    pub short-body : left s (at + 136) < size → ranOut 3 ≡ readFrom66 primary dependent lent at s
-    unfolding readFrom66 outcome from66 parse
-    short-body u = rw (le-leb _ _ t, ← e, lt-leb _ _ u)
+  module _ (t : 136 ≤ left s at) {size : ℕ} {pre : List ℕ} (hp : pre ≡ bytes s at 136) {isP : Bool} (hq : isP ≡ isPrimary pre) (hs : size ≡ cond isP primary dependent) where
+    size-is : size ≡ bodySize (bytes s at 136) primary dependent
+    size-is = rw (← hp, ← hq) hs
 
-    pub whole : size ≤ left s (at + 136)
-        → handOut lent (eventOf (bytes s at 136) (bytes s (at + 136) size) (isTribrid (bytes s at 136) primary dependent)) (at + 136 + size)
-        ≡ readFrom66 primary dependent lent at s
-    unfolding readFrom66 outcome from66 parse
-    whole u = rw (le-leb _ _ t, ← e, le-leb _ _ u)
+    pub short-body : left s (at + 136) < size → ranOut 3 ≡ partAt 3 at (from66 primary dependent) s
+    unfolding partAt from66 parse
+    short-body u = rw (le-leb _ _ t, ← size-is, lt-leb _ _ u)
 
-  -- the same, from what the code has in hand
-  pub from-parts : (t : 136 ≤ left s at) {size : ℕ} {pre body : List ℕ} {isP isT : Bool} → pre ≡ bytes s at 136 → isP ≡ isPrimary pre → size ≡ cond isP primary dependent
-      → body ≡ bytes s (at + 136) size → isT ≡ (not (eqb primary dependent) && not isP) → size ≤ left s (at + 136)
-      → handOut lent (eventOf pre body isT) (at + 136 + size) ≡ readFrom66 primary dependent lent at s
-  from-parts t {size} hp hq hs hb ht u =
-      let e : size ≡ bodySize (bytes s at 136) primary dependent = rw (← hp, ← hq) hs in
-      rw (hb, ht, hq, hp) (whole t size e u)
+    whole : size ≤ left s (at + 136)
+        → ok (eventOf (bytes s at 136) (bytes s (at + 136) size) (isTribrid (bytes s at 136) primary dependent), at + 136 + size) ≡ partAt 3 at (from66 primary dependent) s
+    unfolding partAt from66 parse
+    whole u = rw (le-leb _ _ t, ← size-is, le-leb _ _ u)
+
+    -- the places that are answered, from what the code has in hand
+    pub found : {body : List ℕ} {isT : Bool} (j : Lists) → body ≡ bytes s (at + 136) size → isT ≡ (not (eqb primary dependent) && not isP) → size ≤ left s (at + 136)
+        → eventIn pre body j ≡ eventOf pre body isT
+        → toldPlaces s (At (record { preamble = at; «preamble_len» = 136; body = at + 136; «body_len» = size; lists = j; next = at + 136 + size })) ≡ partAt 3 at (from66 primary dependent) s
+    found j hb ht u e =
+        let same : eventIn (bytes s at 136) (bytes s (at + 136) size) j ≡ eventOf (bytes s at 136) (bytes s (at + 136) size) (isTribrid (bytes s at 136) primary dependent) =
+        rw (hb, ht, hq, hp) at e in
+        rw same (whole u)

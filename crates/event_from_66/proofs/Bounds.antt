@@ -1,5 +1,4 @@
 -- Places in a body are small, and reactions are sought in every event that is not primary.
--- Assumes nothing.
 use mathlib.Core.Path.{_≡_, refl}
 use mathlib.Core.Logic.{⊎-elim}
 use Prim.Native.Nat.{ℕ, _+_, _-_, _≤_, _<_}
@@ -16,7 +15,12 @@ use Rattle.window.specs.declared.Window.{Window}
 use Rattle.window.specs.declared.Window.the-variants.{Absent, Ends}
 use Rattle.window.specs.declared.Found.{Found}
 use Rattle.coefficient.specs.Coefficients.{wordAfter, wordPlace}
-use Rattle.event_from_66.specs.Layout.{sought}
+use Rattle.lists.specs.Written.{each}
+use Rattle.reaction.specs.Reactions.{reactionsIn}
+use Rattle.reaction.specs.Source.{inSource}
+use Rattle.reaction.specs.declared.Source.the-variants.{Every, Sought}
+use Rattle.event_from_66.specs.Layout.{sought, reactionsOf}
+use Rattle.event_from_66.specs.Judged.{sourceOf}
 
 -- the first of two candidates' offsets
 else-most : (w : Window) (off most : ℕ) (rest : Found) → off ≤ most → rest .offset ≤ most → orElse w off rest .offset ≤ most
@@ -57,7 +61,7 @@ other-way : (a : Bool) → (false || a) ≡ not (true && not a)
 other-way true = refl
 other-way false = refl
 
-pub sought-is : (preamble : List ℕ) → sought preamble ≡ not (isPrimary preamble)
+sought-is : (preamble : List ℕ) → sought preamble ≡ not (isPrimary preamble)
 sought-is preamble =
     ⊎-elim
     (λ (h : 2 ≤ byte preamble 6).
@@ -67,3 +71,11 @@ sought-is preamble =
     let low : byte preamble 6 ≤ 1 = omega arith in
     rw (lt-leb 2 (byte preamble 6) h, le-leb (byte preamble 6) 1 low) (other-way (isDependent preamble)))
     (le-or-lt 2 (byte preamble 6))
+
+pub source-is : (preamble body : List ℕ) (tribrid : Bool) → inSource body (sourceOf preamble tribrid) ≡ reactionsOf preamble body tribrid
+unfolding reactionsOf inSource each
+source-is preamble body tribrid = rw (sought-is preamble) (go (isPrimary preamble))
+  where
+    go : (b : Bool) → inSource body (cond b (Every 0 0 0) (Sought tribrid)) ≡ cond (not b) (reactionsIn tribrid body) []
+    go true = refl
+    go false = refl

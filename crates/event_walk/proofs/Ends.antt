@@ -1,5 +1,4 @@
 -- Where an event ends, by the tests that decide it, and the walk over k of them.
--- Assumes nothing.
 use mathlib.Core.Path.{_≡_, refl, sym, subst, _∙_}
 use Prim.Native.Nat.{ℕ, suc, _+_, _-_, _≤_, _<_}
 use native.Mathlib.Nat.{sub-zero}

@@ -1,5 +1,4 @@
 -- Demand 3 for where an event ends, and where the k-th starts. Body sizes have 32 bits, and k has 16.
--- Assumes nothing.
 use Prim.Native.Nat.{ℕ, _+_, _*_, _-_, _^_, _<_}
 use native.Mathlib.Omega.{arith}
 use lib.Dec.{leb, lit≤}

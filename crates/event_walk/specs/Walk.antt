@@ -4,14 +4,11 @@ use mathlib.Core.Bool.{cond}
 use mathlib.Core.List.{List}
 use lib.Dec.{leb}
 use Rattle.refusal.specs.Outcome.{Outcome, ok}
-use Rattle.refusal.specs.Number.{toldRefusal}
 use Rattle.parser.specs.Parser.{Parser, repeat}
 use Rattle.parser.specs.Call.{outcome, single}
 use Rattle.scan_event.specs.Event.{Event}
 use Rattle.event_before_66.specs.Layout.{before66}
 use Rattle.event_from_66.specs.Layout.{from66}
-use Rattle.event_walk.specs.declared.EventPlace.{EventPlace}
-use Rattle.event_walk.specs.declared.EventPlace.the-variants as place
 
 -- the layout of `ScanEvent::read`, by the version
 unfoldable pub event : ℕ → ℕ → ℕ → Parser Event
@@ -24,7 +21,3 @@ eventEnd version primary dependent at run = outcome (single 3 at (event version 
 -- what `event_place` answers: the place behind k events
 unfoldable pub eventPlace : ℕ → ℕ → ℕ → ℕ → ℕ → List ℕ → Outcome ℕ
 eventPlace version primary dependent start k run = outcome (single 3 start (repeat k (event version primary dependent)) (λ _ next. ok next)) run
-
-abbrev pub told : EventPlace → Outcome ℕ
-told (place.At at) = ok at
-told (place.Refused r) = toldRefusal r

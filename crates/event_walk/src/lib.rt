@@ -1,44 +1,40 @@
 // Events that follow one another in a run: where one ends, and where the k-th starts. Nothing is handed out of them.
 ghost use mathlib.Core.Path.{_≡_};
-ghost use Rattle.event_walk.specs.Walk.{eventEnd, eventPlace, told};
+ghost use Rattle.refusal.specs.Number.{toldCount};
+ghost use Rattle.event_walk.specs.Walk.{eventEnd, eventPlace};
 ghost use Rattle.event_walk.specs.Layouts.{endBefore66, endFrom66};
 use event_before_66::SizesAnswer;
 use event_before_66::find_sizes;
 use event_from_66::body_size;
 use preamble::is_primary;
 use reader::remaining;
+use refusal::CountAnswer;
 use refusal::Part;
 use refusal::Refusal;
 
-// A place behind events that are there.
-pub enum EventPlace {
-    At(u64),
-    Refused(Refusal),
-}
-
-fn end_before_66(run: &[u8], at: u64, version: u32) -> EventPlace
-    ensures { λ r. ⌜ told r ≡ endBefore66 version at (now (run .entry)) ⌝ }
+fn end_before_66(run: &[u8], at: u64, version: u32) -> CountAnswer
+    ensures { λ r. ⌜ toldCount r ≡ endBefore66 version at (now (run .entry)) ⌝ }
 {
     match find_sizes(run, at, version) {
-        SizesAnswer::Refused(r) => EventPlace::Refused(r),
-        SizesAnswer::Found(z) => EventPlace::At(
+        SizesAnswer::Refused(r) => CountAnswer::Refused(r),
+        SizesAnswer::Found(z) => CountAnswer::Count(
             at + (z.preamble + 4) + (z.reactions * 32 + 24) + (z.coefficients * 8 + 8),
         ),
     }
 }
 
-fn end_from_66(run: &[u8], at: u64, body_primary: u32, body_dependent: u32) -> EventPlace
-    ensures { λ r. ⌜ told r ≡ endFrom66 «body_primary» «body_dependent» at (now (run .entry)) ⌝ }
+fn end_from_66(run: &[u8], at: u64, body_primary: u32, body_dependent: u32) -> CountAnswer
+    ensures { λ r. ⌜ toldCount r ≡ endFrom66 «body_primary» «body_dependent» at (now (run .entry)) ⌝ }
 {
     if 136 <= remaining(run, at) {
         let from = at as usize;
         let middle = from + 136;
         let size = body_size(is_primary(&run[from..middle]), body_primary, body_dependent);
         if size <= remaining(run, at + 136) {
-            return EventPlace::At(at + 136 + size);
+            return CountAnswer::Count(at + 136 + size);
         }
     }
-    EventPlace::Refused(Refusal::Short(Part::Event))
+    CountAnswer::Refused(Refusal::Short(Part::Event))
 }
 
 // Where the event at a place ends.
@@ -48,8 +44,8 @@ pub fn event_end(
     version: u32,
     body_primary: u32,
     body_dependent: u32,
-) -> EventPlace
-    ensures { λ r. ⌜ told r ≡ eventEnd version «body_primary» «body_dependent» at (now (run .entry)) ⌝ }
+) -> CountAnswer
+    ensures { λ r. ⌜ toldCount r ≡ eventEnd version «body_primary» «body_dependent» at (now (run .entry)) ⌝ }
 {
     if version >= 66 {
         return end_from_66(run, at, body_primary, body_dependent);
@@ -66,17 +62,17 @@ pub fn event_place(
     version: u32,
     body_primary: u32,
     body_dependent: u32,
-) -> EventPlace
-    ensures { λ r. ⌜ told r ≡ eventPlace version «body_primary» «body_dependent» start k (now (run .entry)) ⌝ }
+) -> CountAnswer
+    ensures { λ r. ⌜ toldCount r ≡ eventPlace version «body_primary» «body_dependent» start k (now (run .entry)) ⌝ }
 {
     let mut at = start;
     let mut i: u16 = 0;
     while i < k {
         match event_end(run, at, version, body_primary, body_dependent) {
-            EventPlace::Refused(r) => return EventPlace::Refused(r),
-            EventPlace::At(next) => at = next,
+            CountAnswer::Refused(r) => return CountAnswer::Refused(r),
+            CountAnswer::Count(next) => at = next,
         }
         i = i + 1;
     }
-    EventPlace::At(at)
+    CountAnswer::Count(at)
 }

@@ -1,22 +1,21 @@
 -- The version decides the layout. From 66 on the preamble's size is the one that the layout has.
--- Assumes nothing.
 use mathlib.Core.Path.{_≡_}
 use Prim.Native.Nat.{ℕ, _≤_, _<_}
 use native.Mathlib.Omega.{arith}
 use mathlib.Core.List.{List}
 use borrow.Author.Tests.{le-leb, lt-leb, ne-eqb}
 use Rattle.preamble.specs.Size.{sizeForVersion}
-use Rattle.scan_event.specs.Event.{resultOf}
+use Rattle.scan_event.specs.declared.Lent.{Lent}
 use Rattle.event_before_66.specs.Layout.{readBefore66}
 use Rattle.event_from_66.specs.Layout.{readFrom66}
 use Rattle.events.specs.Event.{readEvent}
 
-module _ (version primary dependent at : ℕ) (s p q e c : List ℕ) where
-  pub from-66 : 66 ≤ version → resultOf (λ lent. readFrom66 primary dependent lent at s) p q e c ≡ resultOf (λ lent. readEvent version primary dependent lent at s) p q e c
+module _ (version primary dependent at : ℕ) (s : List ℕ) (lent : Lent) where
+  pub from-66 : 66 ≤ version → readFrom66 primary dependent lent at s ≡ readEvent version primary dependent lent at s
   unfolding readEvent
   from-66 h = rw (le-leb 66 version h)
 
-  pub before-66 : version < 66 → resultOf (λ lent. readBefore66 version lent at s) p q e c ≡ resultOf (λ lent. readEvent version primary dependent lent at s) p q e c
+  pub before-66 : version < 66 → readBefore66 version lent at s ≡ readEvent version primary dependent lent at s
   unfolding readEvent
   before-66 h = rw (lt-leb 66 version h)
 

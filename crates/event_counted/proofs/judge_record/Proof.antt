@@ -1,5 +1,4 @@
 -- `event_counted::judge_record` meets its contract: each way out is decided by the tests that led there.
--- Assumes nothing.
 use mathlib.Core.Path.{sym, ap, _∙_}
 use native.Mathlib.Omega.{arith}
 use denote.Ref.{now}
@@ -8,27 +7,6 @@ use Rattle.event_counted.proofs.Judging.{no-precursor, bad-precursor, n
 use borrow.Author.Needs.{needs}
 use Rattle.event_counted.proofs.judge_record.Statement.{statement}
 use Rattle.event_counted.proofs.judge_record.Tie as tie
-
-mul-off : tie.Need-mul-off
-mul-off c = search needs
-
-add-off : tie.Need-add-off
-add-off c = search needs
-
-remaining-requires : tie.Need-remaining-requires
-remaining-requires c κs = search needs
-
-u64-at-requires : tie.Need-u64-at-requires
-u64-at-requires c κs = search needs
-
-acceptable-requires : tie.Need-acceptable-requires
-acceptable-requires c κs = search needs
-
-add-remaining : tie.Need-add-remaining
-add-remaining c = search needs
-
-remaining-requires-2 : tie.Need-remaining-requires-2
-remaining-requires-2 c κs = search needs
 
 returns : tie.Need-returns
 returns c =
@@ -39,9 +17,6 @@ returns-2 : tie.Need-returns-2
 returns-2 c =
     let a = c .before .before .before .before .before .before .before .before .args in
     sym (no-energy (a .start) (now (a .body)) (a .i) (omega arith) (sym (ap acceptableBits (c .before .before .before .before .u64-at .ensures)) ∙ sym (c .before .before .before .acceptable .ensures) ∙ c .before .before .if2 .taken) (omega arith))
-
-add-t13 : tie.Need-add-t13
-add-t13 c = search needs
 
 returns-3 : tie.Need-returns-3
 returns-3 c =
@@ -59,15 +34,15 @@ pub judge-record-spec : {M : Type 1} → statement M
 judge-record-spec =
     tie.close
     (tie.spec
-    mul-off
-    add-off
-    remaining-requires
-    u64-at-requires
-    acceptable-requires
-    add-remaining
-    remaining-requires-2
+    (search needs)
+    (search needs)
+    (search needs)
+    (search needs)
+    (search needs)
+    (search needs)
+    (search needs)
     returns
     returns-2
-    add-t13
+    (search needs)
     returns-3
     returns-4)

@@ -1,5 +1,4 @@
 -- `event_counted::judge_records` meets its contract. The invariant: the first i records are sound.
--- Assumes nothing.
 use mathlib.Core.Path.{_≡_, sym, _∙_, ap}
 use Prim.Native.Nat.{_-_, _≤_}
 use native.Mathlib.Omega.{arith}
@@ -21,27 +20,12 @@ abbrev μ-loop : tie.MeasureT-loop
 loop-holds : tie.Need-loop-holds Inv-loop μ-loop
 loop-holds c = (omega arith, none (c .before .args .start) (now (c .before .args .body)))
 
-judge-record-requires : tie.Need-judge-record-requires Inv-loop μ-loop
-judge-record-requires c κs = search needs
-
-enum-known-r : tie.Need-enum-known-r Inv-loop μ-loop
-enum-known-r c = search needs
-
 returns : tie.Need-returns Inv-loop μ-loop
 returns c =
     let l = c .before .before .before .before .before in
     let a = l .before .before .args in
     let found = sym (c .before .before .before .judge-record .ensures) ∙ ap toldRecords (c .before .r .given .1) in
     sym (first-wrong (a .start) (now (a .body)) (l .loop .i) (a .n) (omega arith) (l .loop .inv .1) found)
-
-enum-told : tie.Need-enum-told Inv-loop μ-loop
-enum-told c = search needs
-
-add-i : tie.Need-add-i Inv-loop μ-loop
-add-i c = search needs
-
-loop-less : tie.Need-loop-less Inv-loop μ-loop
-loop-less c = search needs
 
 loop-again : tie.Need-loop-again Inv-loop μ-loop
 loop-again c =
@@ -64,11 +48,11 @@ judge-records-spec =
     Inv-loop
     μ-loop
     loop-holds
-    judge-record-requires
-    enum-known-r
+    (search needs)
+    (search needs)
     returns
-    enum-told
-    add-i
-    loop-less
+    (search needs)
+    (search needs)
+    (search needs)
     loop-again
     returns-2)

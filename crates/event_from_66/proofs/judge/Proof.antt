@@ -1,63 +1,48 @@
 -- `event_from_66::judge` meets its contract.
--- Assumes nothing.
 use native.Mathlib.Omega.{arith}
 use denote.Ref.{now}
 use lib.ListN.{length}
 use mathlib.Core.Path.{ap}
 use Rattle.window.specs.declared.Found.{Found}
-use Rattle.event_from_66.specs.Judged.{judgedOf}
-use Rattle.event_from_66.proofs.Bounds.{offset-most, word-most}
+use Rattle.scan_event.specs.Places.{eventIn}
+use Rattle.event_from_66.specs.Layout.{eventOf}
+use Rattle.event_from_66.proofs.Bounds.{offset-most, word-most, source-is}
 use borrow.Author.Needs.{needs}
 use Rattle.event_from_66.proofs.judge.Statement.{statement}
 use Rattle.event_from_66.proofs.judge.Tie as tie
 
-find-window-requires : tie.Need-find-window-requires
-find-window-requires c κs = search needs
-
-is-primary-requires : tie.Need-is-primary-requires
-is-primary-requires c κs = search needs
-
-word-place-requires : tie.Need-word-place-requires
-word-place-requires c κs = search needs
-
-end-bits-requires : tie.Need-end-bits-requires
-end-bits-requires c κs = search needs
+add-t9 : tie.Need-add-t9
+add-t9 c =
+    let w = c .before in
+    let f = w .before .before in
+    omega (arith, w .word-place .ensures, word-most (f .find-window .result) (length (now (f .before .before .before .args .body))) (w .before .is-primary .result))
 
 add-end-bits : tie.Need-add-end-bits
 add-end-bits c =
-    let f = c .before .before .before in
+    let f = c .before .before .before .before .before in
     let a = f .before .before .before .args in
     omega (arith, ap (λ (x : Found). x .offset) (f .find-window .ensures), offset-most (now (a .body)) (a .tribrid))
 
-end-bits-requires-2 : tie.Need-end-bits-requires-2
-end-bits-requires-2 c κs = search needs
-
-add-t13 : tie.Need-add-t13
-add-t13 c =
-    let w = c .before .before in
-    omega (arith, w .word-place .ensures, word-most (w .before .before .find-window .result) (length (now (w .before .before .before .before .before .args .body))) (w .before .is-primary .result))
-
-count-of-requires : tie.Need-count-of-requires
-count-of-requires c κs = search needs
-
-coefficient-count-requires : tie.Need-coefficient-count-requires
-coefficient-count-requires c κs = search needs
-
 returns : tie.Need-returns
-unfolding judgedOf
-returns c = cc
+unfolding eventIn eventOf
+returns c =
+    let n = c .before .before in
+    let z = n .before in
+    let w = z .before in
+    let f = w .before .before in
+    rw (c .end-bits2 .ensures, c .before .end-bits .ensures, n .coefficient-count .ensures, z .reactions-of .ensures, source-is, w .word-place .ensures, w .before .is-primary .ensures, f .find-window .ensures)
 
 pub judge-spec : {M : Type 1} → statement M
 judge-spec =
     tie.close
     (tie.spec
-    find-window-requires
-    is-primary-requires
-    word-place-requires
-    end-bits-requires
+    (search needs)
+    (search needs)
+    (search needs)
+    (search needs)
+    add-t9
+    (search needs)
+    (search needs)
     add-end-bits
-    end-bits-requires-2
-    add-t13
-    count-of-requires
-    coefficient-count-requires
+    (search needs)
     returns)

@@ -1,5 +1,4 @@
 -- `event_walk::end_before_66` meets its contract: the sizes say where the event ends, within the run.
--- Assumes nothing.
 use mathlib.Core.Path.{sym, ap, _∙_}
 use native.Mathlib.Omega.{arith}
 use denote.Ref.{now}
@@ -9,15 +8,6 @@ use Rattle.event_walk.proofs.Ends.{no-event, whole-before}
 use borrow.Author.Needs.{needs}
 use Rattle.event_walk.proofs.end_before_66.Statement.{statement}
 use Rattle.event_walk.proofs.end_before_66.Tie as tie
-
-find-sizes-requires : tie.Need-find-sizes-requires
-find-sizes-requires c κs = search needs
-
-enum-known-r : tie.Need-enum-known-r
-enum-known-r c = search needs
-
-enum-known-z : tie.Need-enum-known-z
-enum-known-z c = search needs
 
 add-t8 : tie.Need-add-t8
 add-t8 c = omega (arith, stands (c .before .before .before .before .before .before .args .version) (now (c .before .before .before .before .before .before .args .run)) (c .before .before .before .before .before .before .args .at) (sym (ap toldSizes (c .before .before .z .given .1)) ∙ c .before .before .before .before .find-sizes .ensures) .within)
@@ -57,9 +47,9 @@ pub end-before-66-spec : {M : Type 1} → statement M
 end-before-66-spec =
     tie.close
     (tie.spec
-    find-sizes-requires
-    enum-known-r
-    enum-known-z
+    (search needs)
+    (search needs)
+    (search needs)
     add-t8
     add-t9
     mul-t10

@@ -1,45 +1,14 @@
 -- `event_walk::end_from_66` meets its contract: the preamble decides the body's size.
--- Assumes nothing.
 use native.Mathlib.Omega.{arith}
 use denote.Ref.{now}
-use Rattle.scan_event.proofs.Results.{part-is}
+use Rattle.scan_event.proofs.HandOut.{part-is}
 use Rattle.event_walk.proofs.Ends.{no-preamble, no-body, whole-from}
 use borrow.Author.Needs.{needs}
 use Rattle.event_walk.proofs.end_from_66.Statement.{statement}
 use Rattle.event_walk.proofs.end_from_66.Tie as tie
 
-remaining-requires : tie.Need-remaining-requires
-remaining-requires c κs = search needs
-
-add-middle : tie.Need-add-middle
-add-middle c = search needs
-
-sub-is-primary : tie.Need-sub-is-primary
-sub-is-primary c = search needs
-
-part-is-primary-start : tie.Need-part-is-primary-start
-part-is-primary-start c = search needs
-
-part-is-primary-end : tie.Need-part-is-primary-end
-part-is-primary-end c = search needs
-
-is-primary-requires : tie.Need-is-primary-requires
-is-primary-requires c κs = search needs
-
-body-size-requires : tie.Need-body-size-requires
-body-size-requires c κs = search needs
-
-add-remaining : tie.Need-add-remaining
-add-remaining c = search needs
-
-remaining-requires-2 : tie.Need-remaining-requires-2
-remaining-requires-2 c κs = search needs
-
 add-t17 : tie.Need-add-t17
 add-t17 c = omega (arith, c .before .before .body-size .ensures)
-
-add-t18 : tie.Need-add-t18
-add-t18 c = search needs
 
 returns : tie.Need-returns
 returns c =
@@ -60,17 +29,17 @@ pub end-from-66-spec : {M : Type 1} → statement M
 end-from-66-spec =
     tie.close
     (tie.spec
-    remaining-requires
-    add-middle
-    sub-is-primary
-    part-is-primary-start
-    part-is-primary-end
-    is-primary-requires
-    body-size-requires
-    add-remaining
-    remaining-requires-2
+    (search needs)
+    (search needs)
+    (search needs)
+    (search needs)
+    (search needs)
+    (search needs)
+    (search needs)
+    (search needs)
+    (search needs)
     add-t17
-    add-t18
+    (search needs)
     returns
     returns-2
     returns-3)

@@ -1,10 +1,9 @@
 -- `event_walk::event_place` meets its contract: a turn passes one event (`Passed`).
--- Assumes nothing.
 use mathlib.Core.Path.{sym, ap, _∙_}
 use Prim.Native.Nat.{_-_}
 use native.Mathlib.Omega.{arith}
 use denote.Ref.{now}
-use Rattle.event_walk.specs.Walk.{told}
+use Rattle.refusal.specs.Number.{toldCount}
 use Rattle.event_walk.proofs.Ends.{Passed, passed-none, passed-more, passed-short, passed-all}
 use borrow.Author.Needs.{needs}
 use Rattle.event_walk.proofs.event_place.Statement.{statement}
@@ -21,20 +20,11 @@ loop-holds c =
     let a = c .before .args in
     passed-none (a .version) (a .body-primary) (a .body-dependent) (a .start) (a .k) (now (a .run))
 
-event-end-requires : tie.Need-event-end-requires Inv-loop μ-loop
-event-end-requires c κs = search needs
-
-enum-known-r : tie.Need-enum-known-r Inv-loop μ-loop
-enum-known-r c = search needs
-
 returns : tie.Need-returns Inv-loop μ-loop
 returns c =
     let a = c .before .before .before .before .before .before .before .args in
     let l = c .before .before .before .before .before .loop in
-    passed-short (a .version) (a .body-primary) (a .body-dependent) (a .start) (a .k) (now (a .run)) (l .i) (l .at) (c .before .before .before .before .loop-test .taken) (l .inv) (sym (ap told (c .before .r .given .1)) ∙ c .before .before .before .event-end .ensures)
-
-enum-known-next : tie.Need-enum-known-next Inv-loop μ-loop
-enum-known-next c = search needs
+    passed-short (a .version) (a .body-primary) (a .body-dependent) (a .start) (a .k) (now (a .run)) (l .i) (l .at) (c .before .before .before .before .loop-test .taken) (l .inv) (sym (ap toldCount (c .before .r .given .1)) ∙ c .before .before .before .event-end .ensures)
 
 add-i : tie.Need-add-i Inv-loop μ-loop
 add-i c = omega (arith, c .before .before .before .before .loop-test .taken)
@@ -46,7 +36,7 @@ loop-again : tie.Need-loop-again Inv-loop μ-loop
 loop-again c =
     let a = c .before .before .before .before .before .before .before .args in
     let l = c .before .before .before .before .before .loop in
-    passed-more (a .version) (a .body-primary) (a .body-dependent) (a .start) (a .k) (now (a .run)) (l .i) (l .at) (c .before .before .before .before .loop-test .taken) (l .inv) _ (sym (ap told (c .before .next .given .1)) ∙ c .before .before .before .event-end .ensures)
+    passed-more (a .version) (a .body-primary) (a .body-dependent) (a .start) (a .k) (now (a .run)) (l .i) (l .at) (c .before .before .before .before .loop-test .taken) (l .inv) _ (sym (ap toldCount (c .before .next .given .1)) ∙ c .before .before .before .event-end .ensures)
 
 returns-2 : tie.Need-returns-2 Inv-loop μ-loop
 returns-2 c =
@@ -60,10 +50,10 @@ event-place-spec =
     Inv-loop
     μ-loop
     loop-holds
-    event-end-requires
-    enum-known-r
+    (search needs)
+    (search needs)
     returns
-    enum-known-next
+    (search needs)
     add-i
     loop-less
     loop-again
