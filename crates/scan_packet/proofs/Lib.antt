@@ -1,5 +1,4 @@
-pub mod Lists
+pub mod HandOut
 pub mod Found
-pub mod Room
 pub mod Told
 pub mod LongerBytes

@@ -1,18 +1,53 @@
--- What a packet asks for behind its peak list.
--- Assumes nothing.
-use Prim.Native.Nat.{ℕ, _*_, _^_}
+-- Demand 3 for the labels of a packet, and what a packet asks for behind its peak list.
+use mathlib.Core.Path.{_≡_}
+use Prim.Native.Nat.{ℕ, _*_, _^_, _<_}
 use mathlib.Core.List.{List}
 use lib.ListN.{length}
+use Rattle.refusal.specs.Outcome.{onOk}
+use Rattle.parser.specs.LongerBytes.{OnLongerBytes, PrefixProperty, Names, Completes}
 use Rattle.parser.proofs.Asks.{Asks, Any, asks-done, asks-bind}
+use Rattle.parser.proofs.Behind.{on-ok-prefix, on-ok-out, on-ok-completes}
+use Rattle.parser.proofs.OnLongerBytes.{one-part, plain-longer}
 use Rattle.packet_header.specs.declared.PacketHeader.{PacketHeader}
 use Rattle.packet_header.proofs.LongerBytes.{Sizable}
 use Rattle.peaks.specs.Peaks.{Peak}
-use Rattle.labels.specs.Labels.{labels}
-use Rattle.labels.proofs.LongerBytes.{labels-asks}
+use Rattle.peak_list.specs.declared.PeakList.{PeakList}
+use Rattle.labels.specs.Labels.{labels, readLabels, readStreams}
+use Rattle.labels.specs.declared.Labels.{Labels}
+use Rattle.labels.proofs.LongerBytes.{longer-and, labels-asks, labels-prefix, labels-names, labels-completes}
 use Rattle.scan_packet.specs.Packet.{Stored, behindPeaks}
+use Rattle.scan_packet.specs.Places.{withLabels, toldPlaces, streamsOf}
+use Rattle.scan_packet.specs.declared.PacketProfile.{PacketProfile}
+use Rattle.scan_packet.specs.declared.Places.{Places}
 use Rattle.scan_packet.proofs.Found.{whole}
+use Rattle.scan_packet.proofs.Told.{places-told-one}
 
 pub behind-asks : (far : ℕ) (h : PacketHeader) → Sizable h → (profile : Stored) (peaks : List Peak) → Asks far (3 * 2 ^ 34) Any (behindPeaks h profile peaks)
 unfolding behindPeaks whole
 behind-asks far h size profile peaks =
     asks-bind far (3 * 2 ^ 34) 0 Any Any (whole h profile peaks) (λ _ _. asks-done far 0 Any _ tt) (labels h (length peaks)) (labels-asks far h (length peaks) size)
+
+module _ (h : PacketHeader) (profile : PacketProfile) (list : PeakList) where
+  with : Labels → Places
+  with l = record { header = h; profile = profile; list = list; labels = l }
+
+  pub with-labels-prefix : PrefixProperty (withLabels h profile list)
+  unfolding withLabels with
+  with-labels-prefix = on-ok-prefix with (readLabels h (list .count) (list .next)) (labels-prefix h (list .count) (list .next))
+
+  pub with-labels-names : Names (λ q. q ≡ 4) (withLabels h profile list)
+  unfolding withLabels with
+  with-labels-names s part e = labels-names h (list .count) (list .next) s part (on-ok-out with (readLabels h (list .count) (list .next) s) e)
+
+  module _ (size : Sizable h) where
+    pub with-labels-completes : Completes 4 (list .next) (withLabels h profile list)
+    unfolding withLabels with
+    with-labels-completes = on-ok-completes with (readLabels h (list .count) (list .next)) 4 (list .next) (labels-completes h (list .count) (list .next) size)
+
+    pub with-labels-longer : OnLongerBytes toldPlaces
+        (λ s r (_ : Unit {0}). (toldPlaces r ≡ withLabels h profile list s) × (onOk (λ v. streamsOf v s) (toldPlaces r) ≡ readStreams h (list .count) (list .next) s)) (λ q. q ≡ 4)
+        (λ _ _. list .next < 2 ^ 62)
+    with-labels-longer =
+        longer-and (λ s r. onOk (λ v. streamsOf v s) (toldPlaces r) ≡ readStreams h (list .count) (list .next) s)
+        (plain-longer toldPlaces places-told-one (withLabels h profile list) with-labels-prefix (λ q. q ≡ 4) (λ _ _. list .next < 2 ^ 62) with-labels-names
+        (one-part 4 (list .next) (withLabels h profile list) with-labels-names with-labels-completes))

@@ -1,22 +1,26 @@
 -- What a packet holds, what is handed out of it, and the lent slices that it needs (`ScanDataPacket` of scan_data.rs).
-use Prim.Native.Nat.{ℕ, _+_, _*_, _-_, _/_}
-use mathlib.Core.Bool.{Bool, _&&_}
-use mathlib.Core.List.{List}
-use lib.Dec.{leb}
+use Prim.Native.Nat.{ℕ, _+_, _*_}
+use mathlib.Core.Bool.{Bool}
+use mathlib.Core.List.{List, [], _∷_}
 use lib.ListN.{length}
 use Rattle.refusal.specs.Outcome.{Outcome, ok}
 use Rattle.refusal.specs.Number.{toldRefusal}
-use Rattle.parser.specs.Parser.{Parser, done, _>>=_}
+use Rattle.lists.specs.Written.{over}
+use Rattle.lists.specs.Left.{Left, fits, ifRoom, firsts, seconds}
+use Rattle.parser.specs.Parser.{Parser, done, bytes, _>>=_}
 use Rattle.packet_header.specs.declared.PacketHeader.{PacketHeader}
-use Rattle.peaks.specs.Peaks.{Peak, masses, abundances}
+use Rattle.peaks.specs.Peaks.{Peak}
+use Rattle.peak_list.specs.PeakList.{listSize}
+use Rattle.peak_list.specs.PeakList as list
 use Rattle.labels.specs.Labels.{Streams, labels}
+use Rattle.labels.specs.Labels as label
 use Rattle.profile.specs.Profile.{Axis, Chunk, located}
 use Rattle.scan_packet.specs.declared.PacketProfile.{PacketProfile}
 use Rattle.scan_packet.specs.declared.PacketProfile.the-variants.{Absent, Present}
+use Rattle.scan_packet.specs.declared.Places.{Places}
 use Rattle.scan_packet.specs.declared.ScanDataPacket.{ScanDataPacket}
 use Rattle.scan_packet.specs.declared.PacketAnswer.{PacketAnswer}
 use Rattle.scan_packet.specs.declared.PacketAnswer.the-variants as answer
-use Rattle.scan_packet.specs.declared.Lent.{Lent}
 
 -- a profile that was read, or none
 pub data Stored : Type 0 where
@@ -41,51 +45,93 @@ abbrev pub describeProfile : ℕ → ℕ → Stored → PacketProfile
 describeProfile layout at absent = Absent
 describeProfile layout at (present p) = Present (located layout (at + 40) p)
 
--- the answer's record, of a packet that stands at `at` and ends at `next`. The noise nodes stand in the last stream
-unfoldable pub describe : ℕ → Packet → ℕ → ScanDataPacket
-describe at p next =
+-- where the parts of a packet stand: the list at `start`, behind the profile, and the labels behind the list, up to `next`
+unfoldable pub placed : PacketProfile → ℕ → Packet → ℕ → Places
+placed profile start p next =
+    let behind = start + listSize (p .header) (p .peaks) in
     record {
       header = p .header;
-      profile = describeProfile (p .header .layout) at (p .profile);
-      peaks = length (p .peaks);
-      descriptors = length (p .labels .descriptors);
-      resolutions = length (p .labels .resolutions);
-      «noise_nodes» = p .header .«triplet_stream_size» / 3;
-      «nodes_at» = next - p .header .«triplet_stream_size» * 4;
-      next = next;
+      profile = profile;
+      list = list.located (p .header) start (p .peaks) behind;
+      labels = label.located (p .header) behind (p .labels) next;
     }
 
--- what is handed out of any packet: the record, and what is written into the lent slices
+-- the answer's record
+unfoldable pub describe : Places → ScanDataPacket
+describe p =
+    record {
+      header = p .header;
+      profile = p .profile;
+      peaks = p .list .count;
+      descriptors = p .labels .descriptors;
+      resolutions = p .labels .resolutions;
+      «noise_nodes» = p .labels .«noise_nodes»;
+      «nodes_at» = p .labels .«nodes_at»;
+      next = p .labels .next;
+    }
+
+-- what is handed out of any packet: the record, what is written into the lent slices, and the noise nodes, which stay where they are
 pub record Decoded : Type 0 where
   pub packet : ScanDataPacket
   pub mz : List ℕ
   pub abundance : List ℕ
   pub descriptors : List ℕ
   pub resolutions : List ℕ
+  pub nodes : List ℕ
 
-abbrev pub decoded : ℕ → Packet → ℕ → Decoded
-decoded at p next =
+abbrev pub decoded : Places → List Peak → Streams → Decoded
+decoded places peaks l =
     record {
-      packet = describe at p next;
-      mz = masses (p .peaks);
-      abundance = abundances (p .peaks);
-      descriptors = p .labels .descriptors;
-      resolutions = p .labels .resolutions;
+      packet = describe places;
+      mz = firsts peaks;
+      abundance = seconds peaks;
+      descriptors = l .descriptors;
+      resolutions = l .resolutions;
+      nodes = l .nodes;
     }
 
--- the lengths of the lent slices
-abbrev pub lentOf : List ℕ → List ℕ → List ℕ → List ℕ → Lent
-lentOf mz abundance descriptors resolutions =
-    record { mz = length mz; abundance = length abundance; descriptors = length descriptors; resolutions = length resolutions }
+-- the bytes of the nodes that the record answers: twelve each
+abbrev pub nodesAt : List ℕ → ScanDataPacket → List ℕ
+nodesAt s p = bytes s (p .«nodes_at») (p .«noise_nodes» * 12)
 
--- the lent slices hold these counts
-abbrev pub hasRoom : Lent → ℕ → ℕ → ℕ → Bool
-hasRoom lent peaks descriptors resolutions =
-    leb peaks (lent .mz) && leb peaks (lent .abundance) && leb descriptors (lent .descriptors) && leb resolutions (lent .resolutions)
+-- the four lent slices, and their lengths
+pub record Slices : Type 0 where
+  pub mz : List ℕ
+  pub abundance : List ℕ
+  pub descriptors : List ℕ
+  pub resolutions : List ℕ
 
-abbrev pub room : Lent → Packet → Bool
-room lent p = hasRoom lent (length (p .peaks)) (length (p .labels .descriptors)) (length (p .labels .resolutions))
+abbrev pub slices : List ℕ → List ℕ → List ℕ → List ℕ → Slices
+slices m a d q = record { mz = m; abundance = a; descriptors = d; resolutions = q }
+
+pub record Lent : Type 0 where
+  pub mz : ℕ
+  pub abundance : ℕ
+  pub descriptors : ℕ
+  pub resolutions : ℕ
+
+abbrev pub lentOf : Slices → Lent
+lentOf xs =
+    record { mz = length (xs .mz); abundance = length (xs .abundance); descriptors = length (xs .descriptors); resolutions = length (xs .resolutions) }
+
+-- the slices hold what is written into them
+abbrev pub room : Lent → Decoded → Bool
+room lent d =
+    fits ((length (d .mz), lent .mz) ∷ (length (d .abundance), lent .abundance) ∷ (length (d .descriptors), lent .descriptors) ∷ (length (d .resolutions), lent .resolutions) ∷ [])
+
+-- the packet, or refusal 8 where a lent slice is shorter than its count
+unfoldable pub handOut : Lent → Decoded → Outcome Decoded
+handOut lent d = ifRoom (room lent d) d
 
 abbrev pub told : PacketAnswer → Outcome ScanDataPacket
 told (answer.Packet p) = ok p
 told (answer.Refused r) = toldRefusal r
+
+-- a packet is written over the slices' fronts
+abbrev pub written : Decoded → Slices → Slices
+written d xs =
+    slices (over (d .mz) (xs .mz)) (over (d .abundance) (xs .abundance)) (over (d .descriptors) (xs .descriptors)) (over (d .resolutions) (xs .resolutions))
+
+-- a call was lent the slices xs: it answers r, and leaves ys. The call goes by the slices' lengths
+abbrev pub Answers : (Lent → Outcome Decoded) → Slices → PacketAnswer → Slices → Type 0
+Answers call xs r ys = Left (λ (d : Decoded). d .packet) written (call (lentOf xs)) xs (told r) ys

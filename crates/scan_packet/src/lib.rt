@@ -1,17 +1,18 @@
 // What a scan data packet holds, whichever of its readers read it (`ScanDataPacket` of scan_data.rs): the answer, and what
 // the readers share once the peak list is found. The lists go into lent slices; fields that are only read keep their bits.
 ghost use mathlib.Core.Path.{_≡_};
-ghost use Rattle.lists.specs.Written.{fitting};
-ghost use Rattle.peaks.specs.Peaks.{masses, abundances};
-ghost use Rattle.scan_packet.specs.Packet.{hasRoom};
-ghost use Rattle.scan_packet.specs.Places.{withLabels, toldPlaces, peaksOf, descriptorsOf, resolutionsOf, describePlaces};
+ghost use mathlib.Core.Bool.{true};
+ghost use Rattle.refusal.specs.Outcome.{onOk};
+ghost use Rattle.labels.specs.Labels.{readStreams};
+ghost use Rattle.scan_packet.specs.Packet.{describe as described, slices, lentOf, room, handOut, written, Answers};
+ghost use Rattle.scan_packet.specs.Places.{withLabels, toldPlaces, streamsOf, decodedAt};
 use labels::Labels;
 use labels::LabelsAnswer;
 use labels::read_labels;
+use lists::holds;
 use packet_header::PacketHeader;
 use peak_list::PeakList;
 use peak_list::item_size;
-use peaks::write_peaks;
 use profile::Profile;
 use reader::copy_u32s;
 use reader::saturating_add;
@@ -42,14 +43,6 @@ pub enum PacketAnswer {
     Refused(Refusal),
 }
 
-// How many elements of each slice are lent.
-pub struct Lent {
-    pub mz: u64,
-    pub abundance: u64,
-    pub descriptors: u64,
-    pub resolutions: u64,
-}
-
 // Where a packet's parts stand, before anything is written.
 pub struct Places {
     pub header: PacketHeader,
@@ -71,6 +64,7 @@ pub fn with_labels(
     list: PeakList,
 ) -> PlacesAnswer
     ensures { λ r. ⌜ toldPlaces r ≡ withLabels header profile list (now (run .entry)) ⌝ }
+    ensures { λ r. ⌜ onOk (λ v. streamsOf v (now (run .entry))) (toldPlaces r) ≡ readStreams header (list .count) (list .next) (now (run .entry)) ⌝ }
 {
     match read_labels(run, list.next, header, list.count) {
         LabelsAnswer::Refused(r) => PlacesAnswer::Refused(r),
@@ -83,24 +77,8 @@ pub fn with_labels(
     }
 }
 
-// Whether the lent slices hold a packet of these counts.
-pub fn has_room(lent: Lent, peaks: u64, descriptors: u64, resolutions: u64) -> bool
-    ensures { λ r. ⌜ r ≡ hasRoom lent peaks descriptors resolutions ⌝ }
-{
-    if lent.mz < peaks {
-        return false;
-    }
-    if lent.abundance < peaks {
-        return false;
-    }
-    if lent.descriptors < descriptors {
-        return false;
-    }
-    resolutions <= lent.resolutions
-}
-
-// A packet's peaks and labels, over the fronts of the lent slices, as far as they go.
-pub fn write_lists(
+// A packet's peaks and labels, over the fronts of slices that hold them.
+fn write_lists(
     run: &[u8],
     places: Places,
     mz: &mut [u64],
@@ -108,15 +86,14 @@ pub fn write_lists(
     descriptors: &mut [u32],
     resolutions: &mut [u32],
 )
-    ensures { λ _. ⌜ now (mz .exit) ≡ fitting (masses (peaksOf places (now (run .entry)))) (now (mz .entry)) ⌝ }
-    ensures { λ _. ⌜ now (abundance .exit) ≡ fitting (abundances (peaksOf places (now (run .entry)))) (now (abundance .entry)) ⌝ }
-    ensures { λ _. ⌜ now (descriptors .exit) ≡ fitting (descriptorsOf places (now (run .entry))) (now (descriptors .entry)) ⌝ }
-    ensures { λ _. ⌜ now (resolutions .exit) ≡ fitting (resolutionsOf places (now (run .entry))) (now (resolutions .entry)) ⌝ }
+    requires { ⌜ room (lentOf (slices (now mz) (now abundance) (now descriptors) (now resolutions))) (decodedAt places (now run)) ≡ true ⌝ }
+    ensures { λ _. ⌜ slices (now (mz .exit)) (now (abundance .exit)) (now (descriptors .exit)) (now (resolutions .exit))
+        ≡ written (decodedAt places (now (run .entry))) (slices (now (mz .entry)) (now (abundance .entry)) (now (descriptors .entry)) (now (resolutions .entry))) ⌝ }
 {
     let list = places.list;
     let labels = places.labels;
     let stride = item_size(list.wide);
-    write_peaks(run, list.at, stride, list.count, list.wide, mz, abundance);
+    peaks::hand_out(run, list.at, stride, list.count, list.wide, mz, abundance);
     copy_u32s(
         run,
         labels.descriptors_at,
@@ -134,8 +111,8 @@ pub fn write_lists(
 }
 
 // The answer's record.
-pub fn describe(places: Places) -> ScanDataPacket
-    ensures { λ r. ⌜ r ≡ describePlaces places ⌝ }
+fn describe(places: Places) -> ScanDataPacket
+    ensures { λ r. ⌜ r ≡ described places ⌝ }
 {
     let list = places.list;
     let labels = places.labels;
@@ -151,4 +128,35 @@ pub fn describe(places: Places) -> ScanDataPacket
         nodes_at: labels.nodes_at,
         next: labels.next,
     }
+}
+
+// The packet that was found in the run, where the slices hold it.
+pub fn hand_out(
+    run: &[u8],
+    places: Places,
+    mz: &mut [u64],
+    abundance: &mut [u32],
+    descriptors: &mut [u32],
+    resolutions: &mut [u32],
+) -> PacketAnswer
+    ensures { λ r. ⌜ Answers (λ lent. handOut lent (decodedAt places (now (run .entry))))
+        (slices (now (mz .entry)) (now (abundance .entry)) (now (descriptors .entry)) (now (resolutions .entry)))
+        r (slices (now (mz .exit)) (now (abundance .exit)) (now (descriptors .exit)) (now (resolutions .exit))) ⌝ }
+{
+    let n = places.list.count;
+    let labels = places.labels;
+    let labels_fit = holds(
+        labels.descriptors,
+        descriptors.len() as u64,
+        holds(labels.resolutions, resolutions.len() as u64, true),
+    );
+    if holds(
+        n,
+        mz.len() as u64,
+        holds(n, abundance.len() as u64, labels_fit),
+    ) {
+        write_lists(run, places, mz, abundance, descriptors, resolutions);
+        return PacketAnswer::Packet(describe(places));
+    }
+    PacketAnswer::Refused(Refusal::NoRoom)
 }

@@ -1,12 +1,11 @@
--- `scan_packet::describe` meets its contract: each field is its place's.
--- Assumes nothing.
+-- Each field is its place's.
 use mathlib.Core.Path.{refl}
-use Rattle.scan_packet.specs.Places.{describePlaces}
+use Rattle.scan_packet.specs.Packet.{describe}
 use Rattle.scan_packet.proofs.describe.Statement.{statement}
 use Rattle.scan_packet.proofs.describe.Tie as tie
 
 returns : tie.Need-returns
-unfolding describePlaces
+unfolding describe
 returns c = refl
 
 pub describe-spec : {M : Type 1} → statement M
