@@ -1,5 +1,4 @@
 -- Data that were found are what their parser finds, and a refusal is its refusal, whatever follows.
--- Assumes nothing.
 use mathlib.Core.Path.{_≡_, refl, ap, sym, _∙_}
 use Prim.Native.Nat.{ℕ, _+_, _-_}
 use mathlib.Core.Bool.{false}

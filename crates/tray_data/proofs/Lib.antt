@@ -1,4 +1,3 @@
-pub mod Written
 pub mod Answers
 pub mod Told
 pub mod LongerBytes

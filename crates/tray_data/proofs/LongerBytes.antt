@@ -1,26 +1,28 @@
 -- Demand 3 for the data of a scan. The data size has 32 bits.
--- Assumes nothing.
+use mathlib.Core.Path.{_≡_}
 use Prim.Native.Nat.{ℕ, _^_, _<_}
 use lib.Dec.{lit≤}
 use Rattle.refusal.specs.Outcome.{Outcome}
 use Rattle.parser.specs.Parser.{done}
-use Rattle.parser.specs.LongerBytes.{PrefixProperty, Completes}
+use Rattle.parser.specs.LongerBytes.{OnLongerBytes, PrefixProperty, Names, Completes}
 use Rattle.parser.proofs.Completion.{Bounded, bounded-bind, yields-any}
 use Rattle.parser.proofs.Calls.{Settled}
-use Rattle.parser.proofs.Behind.{on-ok-prefix, on-ok-completes}
+use Rattle.parser.proofs.Behind.{on-ok-prefix, on-ok-out, on-ok-completes}
+use Rattle.parser.proofs.OnLongerBytes.{plain-longer, one-part}
 use Rattle.scan_format.specs.declared.ScanDataFormat.{ScanDataFormat}
 use Rattle.scan_format.specs.declared.ScanDataFormat.the-variants.{PacketHeader, FlatV63, FlatV66}
 use Rattle.scan_packet.specs.declared.Places.{Places}
 use Rattle.packet_places.specs.Packet.{packet}
 use Rattle.packet_places.specs.Places.{findPlaces}
-use Rattle.packet_places.proofs.LongerBytes.{packet-bounded, places-prefix, places-completes}
+use Rattle.packet_places.proofs.LongerBytes.{packet-bounded, places-prefix, places-names, places-completes}
 use Rattle.flat.specs.Flat.{flatPeaks, findFlatPeaks}
 use Rattle.flat.proofs.LongerBytes.{flat-bounded}
 use Rattle.flat.proofs.LongerBytes as flat
 use Rattle.srm.specs.Scan.{scan, peaks, findPeaks}
 use Rattle.srm.proofs.LongerBytes.{peaks-bounded}
 use Rattle.srm.proofs.LongerBytes as srm
-use Rattle.tray_data.specs.Data.{Content, centroids, contentOf, Finding, given, implausible, ofAttempt, ofFinding, dataStart, scanData, packetData, narrowPeaks, findData}
+use Rattle.tray_data.specs.Data.{Content, centroids, contentOf, Finding, given, implausible, ofAttempt, ofFinding, dataStart, scanData, packetData, narrowPeaks, findData, told}
+use Rattle.tray_data.proofs.Told.{data-told-one}
 
 module _ (place offset size : ℕ) where
   pub data-prefix : (format : ScanDataFormat) → PrefixProperty (findData format place offset size)
@@ -35,6 +37,18 @@ module _ (place offset size : ℕ) where
       on-ok-completes (λ (v : Places). packetData (v .profile) v) (findPlaces (dataStart place offset)) 4 (dataStart place offset) (places-completes (dataStart place offset))
   data-completes h FlatV63 = on-ok-completes (narrowPeaks 8) (findFlatPeaks place offset size) 4 (dataStart place offset) (flat.find-completes place offset size h)
   data-completes h FlatV66 = on-ok-completes (narrowPeaks 12) (findPeaks place offset) 4 (dataStart place offset) (srm.find-completes place offset)
+
+  pub data-names : (format : ScanDataFormat) → Names (λ q. q ≡ 4) (findData format place offset size)
+  unfolding findData
+  data-names PacketHeader s part h = places-names (dataStart place offset) s part (on-ok-out (λ (v : Places). packetData (v .profile) v) (findPlaces (dataStart place offset) s) h)
+  data-names FlatV63 s part h = flat.find-names place offset size s part (on-ok-out (narrowPeaks 8) (findFlatPeaks place offset size s) h)
+  data-names FlatV66 s part h = srm.find-names place offset s part (on-ok-out (narrowPeaks 12) (findPeaks place offset s) h)
+
+  pub data-longer : size < 2 ^ 32 → (format : ScanDataFormat)
+      → OnLongerBytes told (λ s r (_ : Unit {0}). told r ≡ findData format place offset size s) (λ q. q ≡ 4) (λ _ _. dataStart place offset < 2 ^ 62)
+  data-longer h format =
+      plain-longer told data-told-one (findData format place offset size) (data-prefix format) (λ q. q ≡ 4) (λ _ _. dataStart place offset < 2 ^ 62) (data-names format)
+      (one-part 4 (dataStart place offset) (findData format place offset size) (data-names format) (data-completes h format))
 
 -- the parser's own bound, for calls of several parts
 pub data-bounded : (at offset size : ℕ) → at < 2 ^ 62 → size < 2 ^ 32 → (format : ScanDataFormat) → Bounded (2 ^ 62) (2 ^ 61) (scanData format at offset size)

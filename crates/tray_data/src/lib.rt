@@ -1,20 +1,20 @@
 // The data of a scan, by the format of its run: a packet, flat peaks or an SRM scan. They are found first, so that a scan is
 // judged whole before anything is written, and their pairs are written after.
 ghost use mathlib.Core.Path.{_≡_};
-ghost use Rattle.lists.specs.Written.{fitting};
-ghost use Rattle.pairs.specs.Pairs.{masses, intensities};
+ghost use Rattle.lists.specs.Left.{handOutPairs, LeftPairs};
 ghost use Rattle.refusal.specs.Outcome.{onOk};
 ghost use Rattle.peaks.specs.Peaks.{toldPlace};
 ghost use Rattle.packet_places.specs.Places.{findPlaces};
 ghost use Rattle.tray_data.specs.Data.{packetData, narrowPeaks, pairs, findData, contentAt, countOf, told};
 use flat::find_flat_peaks;
 use packet_places::find_places;
-use pairs::write_pairs;
-use pairs::write_peak_pairs;
+use pairs::peak_pairs;
+use pairs::to_mz_intensity;
 use peak_list::item_size;
 use peaks::PeaksPlace;
 use profile::Profile;
 use reader::saturating_add;
+use refusal::CountAnswer;
 use refusal::Refusal;
 use scan_format::ScanDataFormat;
 use scan_packet::PacketProfile;
@@ -108,21 +108,18 @@ pub fn pair_count(found: ScanData) -> u64
     }
 }
 
-// The pairs of data that were found, over the fronts of the lent slices, as far as they go.
-pub fn write_data_pairs(
+// The pairs of data that were found, over the fronts of both slices.
+pub fn data_pairs(
     run: &[u8],
     found: ScanData,
     coefficients: &[u64],
     mz: &mut [f64],
     intensity: &mut [f64],
-)
-    ensures { λ _. ⌜ now (mz .exit) ≡ fitting (masses (pairs (now (coefficients .entry)) (contentAt found (now (run .entry))))) (now (mz .entry)) ⌝ }
-    ensures { λ _. ⌜ now (intensity .exit) ≡ fitting (intensities (pairs (now (coefficients .entry)) (contentAt found (now (run .entry))))) (now (intensity .entry)) ⌝ }
+) -> CountAnswer
+    ensures { λ r. ⌜ LeftPairs (λ m i. handOutPairs m i (pairs (now (coefficients .entry)) (contentAt found (now (run .entry))))) (now (mz .entry)) (now (intensity .entry)) r (now (mz .exit)) (now (intensity .exit)) ⌝ }
 {
     match found {
-        ScanData::Profile(p) => write_pairs(run, p, coefficients, mz, intensity),
-        ScanData::Peaks(w) => {
-            write_peak_pairs(run, w.at, w.stride, w.count, w.wide, mz, intensity)
-        }
+        ScanData::Profile(p) => to_mz_intensity(run, p, coefficients, mz, intensity),
+        ScanData::Peaks(w) => peak_pairs(run, w.at, w.stride, w.count, w.wide, mz, intensity),
     }
 }

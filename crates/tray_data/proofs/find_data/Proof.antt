@@ -1,5 +1,4 @@
 -- `tray_data::find_data` meets its contract: the format decides.
--- Assumes nothing.
 use mathlib.Core.Path.{sym, ap, _∙_}
 use denote.Ref.{now}
 use Rattle.refusal.specs.Outcome.{onOk}
@@ -9,33 +8,6 @@ use Rattle.tray_data.specs.Data.{packetData, narrowPeaks, findData}
 use borrow.Author.Needs.{needs}
 use Rattle.tray_data.proofs.find_data.Statement.{statement}
 use Rattle.tray_data.proofs.find_data.Tie as tie
-
-enum-told : tie.Need-enum-told
-enum-told c = search needs
-
-saturating-add-requires : tie.Need-saturating-add-requires
-saturating-add-requires c κs = search needs
-
-find-packet-requires : tie.Need-find-packet-requires
-find-packet-requires c κs = search needs
-
-enum-told-2 : tie.Need-enum-told-2
-enum-told-2 c = search needs
-
-find-flat-peaks-requires : tie.Need-find-flat-peaks-requires
-find-flat-peaks-requires c κs = search needs
-
-narrow-peaks-requires : tie.Need-narrow-peaks-requires
-narrow-peaks-requires c κs = search needs
-
-enum-told-3 : tie.Need-enum-told-3
-enum-told-3 c = search needs
-
-find-srm-peaks-requires : tie.Need-find-srm-peaks-requires
-find-srm-peaks-requires c κs = search needs
-
-narrow-peaks-requires-2 : tie.Need-narrow-peaks-requires-2
-narrow-peaks-requires-2 c κs = search needs
 
 returns : tie.Need-returns
 unfolding findData
@@ -61,15 +33,15 @@ pub find-data-spec : {M : Type 1} → statement M
 find-data-spec =
     tie.close
     (tie.spec
-    enum-told
-    saturating-add-requires
-    find-packet-requires
-    enum-told-2
-    find-flat-peaks-requires
-    narrow-peaks-requires
-    enum-told-3
-    find-srm-peaks-requires
-    narrow-peaks-requires-2
+    (search needs)
+    (search needs)
+    (search needs)
+    (search needs)
+    (search needs)
+    (search needs)
+    (search needs)
+    (search needs)
+    (search needs)
     returns
     returns-2
     returns-3)

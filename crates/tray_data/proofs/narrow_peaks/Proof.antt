@@ -1,5 +1,4 @@
 -- `tray_data::narrow_peaks` meets its contract: a place becomes a row of peaks.
--- Assumes nothing.
 use mathlib.Core.Path.{sym, ap}
 use Rattle.refusal.specs.Outcome.{onOk}
 use Rattle.peaks.specs.Peaks.{toldPlace}
@@ -8,12 +7,6 @@ use borrow.Author.Needs.{needs}
 use Rattle.tray_data.proofs.narrow_peaks.Statement.{statement}
 use Rattle.tray_data.proofs.narrow_peaks.Tie as tie
 
-enum-known-found : tie.Need-enum-known-found
-enum-known-found c = search needs
-
-enum-known-found-2 : tie.Need-enum-known-found-2
-enum-known-found-2 c = search needs
-
 returns : tie.Need-returns
 returns c = ap (λ p. onOk (narrowPeaks (c .before .before .before .args .stride)) (toldPlace p)) (sym (c .before .found .given .1))
 
@@ -21,4 +14,4 @@ returns-2 : tie.Need-returns-2
 returns-2 c = ap (λ p. onOk (narrowPeaks (c .before .before .before .args .stride)) (toldPlace p)) (sym (c .before .found2 .given .1))
 
 pub narrow-peaks-spec : {M : Type 1} → statement M
-narrow-peaks-spec = tie.close (tie.spec enum-known-found enum-known-found-2 returns returns-2)
+narrow-peaks-spec = tie.close (tie.spec (search needs) (search needs) returns returns-2)
