@@ -1,16 +1,18 @@
 -- Demand 3 for a counted event. The body's size has 32 bits.
+use mathlib.Core.Path.{_≡_}
 use Prim.Native.Nat.{ℕ, _+_, _-_, _^_, _<_}
 use native.Mathlib.Omega.{arith}
 use mathlib.Core.List.{List}
 use lib.Dec.{leb}
 use Rattle.parser.specs.Call.{single}
-use Rattle.parser.specs.LongerBytes.{PrefixProperty, Completes}
+use Rattle.parser.specs.LongerBytes.{OnLongerBytes, PrefixProperty, Names, Completes}
 use Rattle.parser.proofs.Completion.{Bounded}
 use Rattle.parser.specs.Parser.{bytes, le, left}
-use Rattle.parser.proofs.Calls.{Settled, settled-cond, prefix-property, single-completes}
+use Rattle.parser.proofs.Calls.{Settled, settled-cond, prefix-property, only-part, single-completes}
 use Rattle.refusal.specs.Outcome.{Outcome, ok, refused, andThen}
-use Rattle.scan_event.specs.Event.{Event, Decoded, handOut}
+use Rattle.scan_event.specs.Event.{Event, Decoded, handOut, Slices, lentOf, told, Answers}
 use Rattle.scan_event.proofs.HandOut.{hand-out-settled}
+use Rattle.scan_event.proofs.LongerBytes.{reader-longer}
 use Rattle.scan_event.specs.declared.Lent.{Lent}
 use Rattle.event_counted.specs.Layout.{judgeRecords, kept, countedEvent, bodyEvent, counted, readCounted}
 use Rattle.event_counted.proofs.Judging.{then-settled, records-settled}
@@ -36,8 +38,19 @@ settled-by : (o : Outcome Event) (lent : Lent) (next : ℕ) → Settled o → Se
 settled-by (ok e) lent next h = hand-out-settled lent e next
 settled-by (refused n carries) lent next h = h
 
-pub counted-completes : (size : ℕ) → size < 2 ^ 32 → (lent : Lent) (at : ℕ) → Completes 3 at (readCounted size lent at)
+answered-settled : (lent : Lent) (at : ℕ) (parts : List ℕ × List ℕ) (next : ℕ) → Settled (answered lent at parts next)
+answered-settled lent at parts next = settled-by (bodyEvent (at + 136) (parts .0) (parts .1)) lent next (body-settled (at + 136) (parts .0) (parts .1))
+
+pub counted-names : (size : ℕ) (lent : Lent) (at : ℕ) → Names (λ q. q ≡ 3) (readCounted size lent at)
 unfolding readCounted
-counted-completes size h lent at =
-    single-completes 3 at (counted size) (answered lent at) (counted-bounded size h)
-    (λ parts next. settled-by (bodyEvent (at + 136) (parts .0) (parts .1)) lent next (body-settled (at + 136) (parts .0) (parts .1)))
+counted-names size lent at = only-part 3 at (counted size) (answered lent at) (answered-settled lent at)
+
+module _ (size : ℕ) (h : size < 2 ^ 32) where
+  pub counted-completes : (lent : Lent) (at : ℕ) → Completes 3 at (readCounted size lent at)
+  unfolding readCounted
+  counted-completes lent at = single-completes 3 at (counted size) (answered lent at) (counted-bounded size h) (answered-settled lent at)
+
+  pub counted-longer : (at : ℕ) (xs : Slices) → OnLongerBytes told (λ s r (ys : Slices). Answers (λ lent. readCounted size lent at s) xs r ys) (λ q. q ≡ 3) (λ _ _. at < 2 ^ 62)
+  counted-longer at xs =
+      let lent = lentOf xs in
+      reader-longer (λ lent. readCounted size lent at) at xs (counted-prefix size lent at) (counted-names size lent at) (counted-completes lent at)
