@@ -1,2 +1,1 @@
 pub mod Skipping
-pub mod Judged
