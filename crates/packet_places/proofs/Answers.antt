@@ -1,48 +1,29 @@
 -- What finding a packet's places answers, by what `packet` finds.
--- Assumes nothing.
-use mathlib.Core.Path.{_≡_, ap, _∙_}
+use mathlib.Core.Path.{_≡_, refl, ap, sym, _∙_}
 use mathlib.Core.Logic.{⊎-elim}
 use Prim.Native.Nat.{ℕ, _+_}
-use native.Mathlib.Omega.{arith}
-use mathlib.Core.Bool.{Bool, true, false, cond}
 use mathlib.Core.List.{List}
-use lib.Dec.{eqb}
-use Rattle.refusal.specs.Outcome.{ok, refused, andThen}
+use Rattle.refusal.specs.Outcome.{Outcome, ok, refused, onOk, andThen}
 use Rattle.refusal.proofs.Outcomes.{made-of, Both, both-ok, one-refused}
-use Rattle.labels.specs.Labels.{readLabels}
+use Rattle.labels.specs.Labels.{Streams, readLabels}
 use Rattle.labels.specs.declared.Labels.{Labels}
-use Rattle.parser.specs.Parser.{done, parsed, parse, _>>=_}
-use Rattle.parser.proofs.Prefix.{parts}
+use Rattle.parser.specs.Parser.{parsed, parse}
+use Rattle.parser.specs.Call.{outcome}
 use Rattle.parser.proofs.Answered.{RanOut}
 use Rattle.packet_header.specs.Header.{readHeader}
 use Rattle.packet_header.specs.declared.PacketHeader.{PacketHeader}
 use Rattle.peak_list.specs.PeakList.{readPeaks}
 use Rattle.peak_list.specs.declared.PeakList.{PeakList}
-use Rattle.profile.specs.Profile.{Axis, Chunk, profile}
-use Rattle.scan_packet.specs.Packet.{Stored, absent, present, describeProfile}
-use Rattle.scan_packet.specs.Places.{withLabels}
+use Rattle.peaks.specs.Peaks.{Peak}
+use Rattle.scan_packet.specs.Packet.{Stored, describeProfile}
+use Rattle.scan_packet.specs.Places.{withLabels, peaksOf, streamsOf}
 use Rattle.scan_packet.specs.declared.PacketProfile.{PacketProfile}
 use Rattle.scan_packet.specs.declared.Places.{Places}
 use Rattle.scan_packet.proofs.Found.{Stands}
 use Rattle.packet_places.specs.Packet.{stored, packet}
-use Rattle.packet_places.specs.Places.{findProfile, behindHeader, findPlaces}
-use Rattle.packet_places.proofs.Stages.{keep, header-short, k, stored-short, peaks-short, labels-short, whole}
-
--- a profile that was kept was parsed
-was-parsed : (h : PacketHeader) (s : List ℕ) (place : ℕ) (p : Axis × List Chunk) (next : ℕ) (b : Bool)
-    → parse (cond b (done absent) (profile (h .layout) >>= keep)) s place ≡ parsed (present p) next → parse (profile (h .layout)) s place ≡ parsed p next
-unfolding keep parse
-was-parsed h s place p next true e = let c : _≡_ {A = ℕ} 0 1 = cc in absurd (omega arith)
-was-parsed h s place p next false e =
-    let w = parts (profile (h .layout)) keep s place e in
-    let a : w .first ≡ p = cc (w .there) in
-    let n : w .middle ≡ next = cc (w .there) in
-    w .here ∙ rw (a, n)
-
-pub present-parsed : (h : PacketHeader) (s : List ℕ) (place : ℕ) (p : Axis × List Chunk) (next : ℕ)
-    → parse (stored h) s place ≡ parsed (present p) next → parse (profile (h .layout)) s place ≡ parsed p next
-unfolding stored keep
-present-parsed h s place p next = was-parsed h s place p next (eqb (h .«profile_size») 0)
+use Rattle.packet_places.specs.Places.{fullPlaces, findPlaces, listsAt, findLists}
+use Rattle.packet_places.specs.Stages.{findProfile, behindHeader, inTurn}
+use Rattle.packet_places.proofs.Stages.{header-short, k, stored-short, peaks-short, labels-short, whole}
 
 -- the labels leave the profile as it was found
 with-profile : (s : List ℕ) (h : PacketHeader) (p : PacketProfile) (list : PeakList) {v : Places} → ok v ≡ withLabels h p list s → v .profile ≡ p
@@ -52,9 +33,9 @@ with-profile s h p list e =
 
 module _ (s : List ℕ) (at : ℕ) where
   -- a refusal of any stage
-  pub packet-short : {n : ℕ} {carries : List ℕ} → refused n carries ≡ findPlaces at s → RanOut 4 packet s at n carries
-  unfolding findPlaces behindHeader
-  packet-short {n} {carries} i =
+  stage-short : {n : ℕ} {carries : List ℕ} → refused n carries ≡ inTurn at s → RanOut 4 packet s at n carries
+  unfolding inTurn behindHeader
+  stage-short {n} {carries} i =
       ⊎-elim
       (λ (e : refused n carries ≡ readHeader at s). header-short s at e)
       (λ (b : Both (readHeader at s) (λ h. behindHeader h at s) (refused n carries)). behind (b .value) (b .first) (b .second))
@@ -83,11 +64,11 @@ module _ (s : List ℕ) (at : ℕ) where
     pub next : ℕ
     pub kept : parse (stored header) s (at + 40) ≡ parsed profile next
     pub is : v .profile ≡ describeProfile (header .layout) at profile
-    pub stands : Stands packet s at profile v
+    pub stands : Stands packet (fullPlaces at) s at profile v
 
-  pub standing : {v : Places} → ok v ≡ findPlaces at s → Standing v
-  unfolding findPlaces behindHeader
-  standing {v} i =
+  stages-stand : {v : Places} → ok v ≡ inTurn at s → Standing v
+  unfolding inTurn behindHeader
+  stages-stand {v} i =
       let a = both-ok (λ h. behindHeader h at s) (readHeader at s) i in
       let b = both-ok (λ p. andThen (readPeaks (a .value) (p .1) s) (λ list. withLabels (a .value) (p .0) list s)) (findProfile (a .value) at s) (a .second) in
       let p = b .value in
@@ -101,3 +82,22 @@ module _ (s : List ℕ) (at : ℕ) where
         is = with-profile s (a .value) (p .0) (c .value) (c .second) ∙ t .is;
         stands = whole s at (a .value) (a .first) (p .0) (p .1) (b .first) (c .value) (c .first) (c .second);
       }
+
+  -- so what is found in turn is what `packet` finds
+  pub by-stages : (o : Outcome Places) → o ≡ inTurn at s → (o ≡ findPlaces at s) × (onOk (listsAt s) o ≡ findLists at s)
+  unfolding findPlaces findLists outcome
+  by-stages (ok v) e =
+      let w = stages-stand e .stands in
+      let lists : _≡_ {A = List Peak × Streams} (peaksOf v s, streamsOf v s) (w .packet .peaks, w .packet .labels) =
+      ap (λ (l : Streams). (peaksOf v s, l)) (w .streams) ∙ ap (λ (ps : List Peak). (ps, w .packet .labels)) (w .peaks) in
+      rw (w .there) (ap ok (w .placed), ap ok lists)
+  by-stages (refused n carries) e = let r = stage-short e in rw (r .there, r .one, r .part) (refl, refl)
+
+  same : inTurn at s ≡ findPlaces at s
+  same = by-stages (inTurn at s) refl .0
+
+  pub packet-short : {n : ℕ} {carries : List ℕ} → refused n carries ≡ findPlaces at s → RanOut 4 packet s at n carries
+  packet-short e = stage-short (e ∙ sym same)
+
+  pub standing : {v : Places} → ok v ≡ findPlaces at s → Standing v
+  standing e = stages-stand (e ∙ sym same)

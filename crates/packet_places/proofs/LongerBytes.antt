@@ -1,36 +1,30 @@
 -- Demand 3 for where a packet's parts stand.
--- Assumes nothing.
-use mathlib.Core.Path.{_≡_, sym}
-use Prim.Native.Nat.{ℕ, _+_, _*_, _^_}
-use mathlib.Core.List.{List}
+use mathlib.Core.Path.{_≡_}
+use Prim.Native.Nat.{ℕ, _+_, _*_, _^_, _<_}
 use lib.Dec.{eqb, lit≤}
-use Rattle.refusal.specs.Outcome.{ok, ranOut, andThen}
+use Rattle.refusal.specs.Outcome.{ok, onOk}
 use Rattle.parser.specs.Parser.{done, _>>=_}
-use Rattle.parser.specs.Call.{outcome, single}
-use Rattle.parser.specs.LongerBytes.{PrefixProperty, Completes}
+use Rattle.parser.specs.Call.{single}
+use Rattle.parser.specs.LongerBytes.{OnLongerBytes, PrefixProperty, Names, Completes}
 use Rattle.parser.proofs.Completion.{Bounded, bounded-more}
 use Rattle.parser.proofs.Asks.{Asks, Any, asks-done, asks-cond, asks-bind}
-use Rattle.parser.proofs.Calls.{prefix-property, single-completes}
-use Rattle.parser.proofs.Behind.{on-ok-prefix, then-prefix}
-use Rattle.packet_header.specs.Header.{header, readHeader}
+use Rattle.parser.proofs.Calls.{prefix-property, only-part, single-completes}
+use Rattle.parser.proofs.OnLongerBytes.{one-part, plain-longer}
+use Rattle.packet_header.specs.Header.{header}
 use Rattle.packet_header.specs.declared.PacketHeader.{PacketHeader}
-use Rattle.packet_header.proofs.LongerBytes.{Sizable, header-asks, header-prefix}
-use Rattle.peak_list.specs.PeakList.{peakList, readPeaks}
-use Rattle.peak_list.specs.declared.PeakList.{PeakList}
-use Rattle.peak_list.proofs.LongerBytes.{peak-list-asks, peak-list-prefix}
-use Rattle.labels.specs.Labels.{readLabels}
-use Rattle.labels.specs.declared.Labels.{Labels}
-use Rattle.labels.proofs.LongerBytes.{labels-prefix}
+use Rattle.packet_header.proofs.LongerBytes.{Sizable, header-asks}
+use Rattle.peak_list.specs.PeakList.{peakList}
+use Rattle.peak_list.proofs.LongerBytes.{peak-list-asks}
+use Rattle.labels.proofs.LongerBytes.{longer-and}
 use Rattle.profile.specs.Profile.{profile}
 use Rattle.profile.proofs.LongerBytes.{profile-asks}
-use Rattle.scan_packet.specs.Packet.{absent, present, behindPeaks, describeProfile}
-use Rattle.scan_packet.specs.Places.{withLabels}
-use Rattle.scan_packet.specs.declared.PacketProfile.{PacketProfile}
+use Rattle.scan_packet.specs.Packet.{absent, present, behindPeaks}
+use Rattle.scan_packet.specs.Places.{toldPlaces}
 use Rattle.scan_packet.proofs.LongerBytes.{behind-asks}
+use Rattle.scan_packet.proofs.Told.{places-told-one}
 use Rattle.packet_places.specs.Packet.{stored, packet}
-use Rattle.packet_places.specs.Places.{findProfile, behindHeader, findPlaces}
+use Rattle.packet_places.specs.Places.{fullPlaces, findPlaces, listsAt, findLists}
 use Rattle.packet_places.proofs.Stages.{keep, behindStored, rest}
-use Rattle.packet_places.proofs.Answers.{packet-short}
 
 -- at most so many bytes behind the end
 abbrev pub most : ℕ
@@ -57,33 +51,21 @@ module _ (far : ℕ) where
 pub packet-bounded : Bounded (2 ^ 62) (2 ^ 61) packet
 packet-bounded = bounded-more (2 ^ 62) most (2 ^ 61) packet (lit≤ tt) (packet-asks (2 ^ 62) .bounded)
 
-find-profile-prefix : (h : PacketHeader) (at : ℕ) → PrefixProperty (findProfile h at)
-unfolding findProfile
-find-profile-prefix h at = prefix-property (single 4 (at + 40) (stored h) (λ p next. ok (describeProfile (h .layout) at p, next)))
-
-labels-behind : (h : PacketHeader) (p : PacketProfile) (list : PeakList) → PrefixProperty (withLabels h p list)
-unfolding withLabels
-labels-behind h p list =
-    on-ok-prefix (λ (l : Labels). record { header = h; profile = p; list = list; labels = l }) (readLabels h (list .count) (list .next))
-    (labels-prefix h (list .count) (list .next))
-
 module _ (at : ℕ) where
-  behind-prefix : (h : PacketHeader) → PrefixProperty (behindHeader h at)
-  unfolding behindHeader
-  behind-prefix h =
-      then-prefix (findProfile h at) (find-profile-prefix h at) (λ p s. andThen (readPeaks h (p .1) s) (λ list. withLabels h (p .0) list s))
-      (λ p. then-prefix (readPeaks h (p .1)) (peak-list-prefix h (p .1)) (λ list. withLabels h (p .0) list) (λ list. labels-behind h (p .0) list))
-
   pub places-prefix : PrefixProperty (findPlaces at)
   unfolding findPlaces
-  places-prefix = then-prefix (readHeader at) (header-prefix at) (λ h. behindHeader h at) behind-prefix
+  places-prefix = prefix-property (single 4 at packet (λ p next. ok (fullPlaces at p next)))
 
-  -- a packet whose places are not found runs out
-  ran-out-too : (s : List ℕ) → findPlaces at s ≡ ranOut 4 → outcome (single 4 at packet (λ _ next. ok next)) s ≡ ranOut 4
-  unfolding outcome
-  ran-out-too s h = rw (packet-short s at (sym h) .there)
+  pub places-names : Names (λ q. q ≡ 4) (findPlaces at)
+  unfolding findPlaces
+  places-names = only-part 4 at packet (λ p next. ok (fullPlaces at p next)) (λ _ _. tt)
 
   pub places-completes : Completes 4 at (findPlaces at)
-  places-completes s isBytes few low h =
-      let w = single-completes 4 at packet (λ _ next. ok next) packet-bounded (λ _ _. tt) s isBytes few low (ran-out-too s h) in
-      (w .0, w .1, λ z. w .2 (ran-out-too _ z))
+  unfolding findPlaces
+  places-completes = single-completes 4 at packet (λ p next. ok (fullPlaces at p next)) packet-bounded (λ _ _. tt)
+
+  pub places-longer : OnLongerBytes toldPlaces (λ s r (_ : Unit {0}). (toldPlaces r ≡ findPlaces at s) × (onOk (listsAt s) (toldPlaces r) ≡ findLists at s)) (λ q. q ≡ 4) (λ _ _. at < 2 ^ 62)
+  places-longer =
+      longer-and (λ s r. onOk (listsAt s) (toldPlaces r) ≡ findLists at s)
+      (plain-longer toldPlaces places-told-one (findPlaces at) places-prefix (λ q. q ≡ 4) (λ _ _. at < 2 ^ 62) places-names
+      (one-part 4 at (findPlaces at) places-names places-completes))

@@ -1,33 +1,38 @@
 -- The stages of a whole packet: what was found stage by stage is what `packet` finds.
--- Assumes nothing.
 use mathlib.Core.Path.{_≡_, refl, ap, sym, subst, _∙_}
 use Prim.Native.Nat.{ℕ, _+_}
+use native.Mathlib.Nat.{add-zero}
+use native.Mathlib.Omega.{arith}
+use mathlib.Core.Bool.{Bool, true, false, cond}
 use mathlib.Core.List.{List}
-use lib.ListN.{length}
+use lib.Dec.{eqb}
 use borrow.Author.Tests.{eq-eqb, ne-eqb}
 use Rattle.refusal.specs.Outcome.{Outcome, ok, refused}
 use Rattle.parser.specs.Parser.{Parser, done, parsed, parse, _>>=_}
 use Rattle.parser.specs.Call.{outcome}
-use Rattle.parser.proofs.Prefix.{parse-bind}
+use Rattle.parser.proofs.Prefix.{parse-bind, parts}
 use Rattle.parser.proofs.Answered.{found, RanOut, ran-out}
 use Rattle.packet_header.specs.Header.{header, readHeader}
 use Rattle.packet_header.specs.declared.PacketHeader.{PacketHeader}
 use Rattle.packet_header.proofs.Size.{header-read}
 use Rattle.peaks.specs.Peaks.{Peak, peaksAt}
-use Rattle.peak_list.specs.PeakList.{itemSize, peakList, located, readPeaks}
+use Rattle.peak_list.specs.PeakList.{itemSize, peakList, listSize, located, readPeaks}
 use Rattle.peak_list.specs.declared.PeakList.{PeakList}
-use Rattle.peak_list.proofs.Lists.{located-peaks}
+use Rattle.peak_list.proofs.Lists.{listed}
 use Rattle.profile.specs.Profile.{Axis, Chunk, profile, readProfile}
 use Rattle.profile.specs.declared.Profile.{Profile}
 use Rattle.profile.proofs.Answers.{profiled, unprofiled}
-use Rattle.scan_packet.specs.Packet.{Stored, present, Packet, behindPeaks, describeProfile}
+use Rattle.profile.proofs.Size.{profile-end}
+use Rattle.labels.specs.Labels.{Streams}
+use Rattle.scan_packet.specs.Packet.{Stored, absent, present, Packet, behindPeaks, describeProfile, placed}
 use Rattle.scan_packet.specs.Places.{withLabels}
 use Rattle.scan_packet.specs.declared.PacketProfile.{PacketProfile}
 use Rattle.scan_packet.specs.declared.PacketProfile.the-variants.{Absent, Present}
 use Rattle.scan_packet.specs.declared.Places.{Places}
 use Rattle.scan_packet.proofs.Found.{Stands, ran-out-behind, found-behind}
-use Rattle.packet_places.specs.Packet.{stored, packet}
-use Rattle.packet_places.specs.Places.{findProfile, behindHeader}
+use Rattle.packet_places.specs.Packet.{stored, storedSize, packet}
+use Rattle.packet_places.specs.Places.{fullPlaces}
+use Rattle.packet_places.specs.Stages.{findProfile, behindHeader}
 
 -- what is made of a profile, and what follows it and the header
 unfoldable pub keep : Axis × List Chunk → Parser Stored
@@ -62,6 +67,37 @@ module _ (h : PacketHeader) (at : ℕ) (s : List ℕ) where
         let r = profiled (h .layout) s (at + 40) e in
         rw (to-profile, parse-bind (profile (h .layout)) keep s (at + 40), r .there) (ap (λ (v : Profile). ok (Present v, next)) (r .made))
 
+-- a profile that was kept was parsed, and ends by its size
+by-test : (h : PacketHeader) (s : List ℕ) (place : ℕ) (p : Axis × List Chunk) (next : ℕ) (b : Bool)
+    → parse (cond b (done absent) (profile (h .layout) >>= keep)) s place ≡ parsed (present p) next → parse (profile (h .layout)) s place ≡ parsed p next
+unfolding keep parse
+by-test h s place p next true e = let c : _≡_ {A = ℕ} 0 1 = cc in absurd (omega arith)
+by-test h s place p next false e =
+    let w = parts (profile (h .layout)) keep s place e in
+    let a : w .first ≡ p = cc (w .there) in
+    let n : w .middle ≡ next = cc (w .there) in
+    w .here ∙ rw (a, n)
+
+pub present-parsed : (h : PacketHeader) (s : List ℕ) (place : ℕ) (p : Axis × List Chunk) (next : ℕ)
+    → parse (stored h) s place ≡ parsed (present p) next → parse (profile (h .layout)) s place ≡ parsed p next
+unfolding stored keep
+present-parsed h s place p next = by-test h s place p next (eqb (h .«profile_size») 0)
+
+absent-end : (h : PacketHeader) (s : List ℕ) (place next : ℕ) (b : Bool)
+    → parse (cond b (done absent) (profile (h .layout) >>= keep)) s place ≡ parsed absent next → next ≡ place
+unfolding keep parse
+absent-end h s place next true e = cc
+absent-end h s place next false e =
+    let w = parts (profile (h .layout)) keep s place e in
+    let c : present (w .first) ≡ absent = cc (w .there) in
+    let z : _≡_ {A = ℕ} 0 1 = cc in
+    absurd (omega arith)
+
+stored-end : (h : PacketHeader) (s : List ℕ) (place : ℕ) (p : Stored) (next : ℕ) → parse (stored h) s place ≡ parsed p next → next ≡ place + storedSize h p
+unfolding stored keep
+stored-end h s place absent next e = absent-end h s place next (eqb (h .«profile_size») 0) e ∙ rw add-zero
+stored-end h s place (present p) next e = profile-end (h .layout) s place (present-parsed h s place p next e)
+
 -- from the stages to the whole
 module _ (s : List ℕ) (at : ℕ) where
   to-rest : {h : PacketHeader} → ok h ≡ readHeader at s → parse packet s at ≡ parse (rest h) s (at + 40)
@@ -80,16 +116,14 @@ module _ (s : List ℕ) (at : ℕ) where
       pub profile : Stored
       pub there : parse (stored h) s (at + 40) ≡ parsed profile next
       pub is : p ≡ describeProfile (h .layout) at profile
+      pub end : next ≡ at + 40 + storedSize h profile
 
     kept : (p : PacketProfile) (next : ℕ) → ok (p, next) ≡ findProfile h at s → Kept p next
     unfolding findProfile
     kept p next f =
         let w = found 4 (at + 40) (stored h) (λ (q : Stored) (end : ℕ). (describeProfile (h .layout) at q, end)) s f in
-        record {
-          profile = w .value;
-          there = w .there ∙ ap (parsed (w .value)) (sym (ap (λ (v : PacketProfile × ℕ). v .1) (w .made)));
-          is = ap (λ (v : PacketProfile × ℕ). v .0) (w .made);
-        }
+        let there = w .there ∙ ap (parsed (w .value)) (sym (ap (λ (v : PacketProfile × ℕ). v .1) (w .made))) in
+        record { profile = w .value; there = there; is = ap (λ (v : PacketProfile × ℕ). v .0) (w .made); end = stored-end h s (at + 40) (w .value) next there }
 
     pub stored-short : {n : ℕ} {carries : List ℕ} → refused n carries ≡ findProfile h at s → RanOut 4 packet s at n carries
     unfolding findProfile rest
@@ -108,33 +142,38 @@ module _ (s : List ℕ) (at : ℕ) where
       pub peaks-short : {n : ℕ} {carries : List ℕ} → refused n carries ≡ readPeaks h next s → RanOut 4 packet s at n carries
       unfolding readPeaks
       peaks-short g =
-          let r = ran-out 4 next (peakList h) (located h) s g in
+          let r = ran-out 4 next (peakList h) (located h next) s g in
           record { there = to-peaks ∙ parse-bind (peakList h) (behindPeaks h (k .profile)) s next ∙ rw (r .there); one = r .one; part = r .part }
 
       -- the list that was found
-      record Listed (list : PeakList) : Type 0 where
+      record ListFound (list : PeakList) : Type 0 where
         peaks : List Peak
         behind : parse packet s at ≡ parse (behindPeaks h (k .profile) peaks) s (list .next)
-        count : list .count ≡ length peaks
+        is : list ≡ located h next peaks (next + listSize h peaks)
         stand : peaks ≡ peaksAt (list .wide) (itemSize (list .wide)) s (list .at) (list .count)
 
-      listed : (list : PeakList) → ok list ≡ readPeaks h next s → Listed list
+      list-found : (list : PeakList) → ok list ≡ readPeaks h next s → ListFound list
       unfolding readPeaks
-      listed list g =
-          let w = found 4 next (peakList h) (located h) s g in
-          subst Listed (sym (w .made))
+      list-found list g =
+          let w = found 4 next (peakList h) (located h next) s g in
+          let l = listed h s next (w .there) in
+          subst ListFound (sym (w .made))
           (record {
             peaks = w .value;
             behind = to-peaks ∙ parse-bind (peakList h) (behindPeaks h (k .profile)) s next ∙ rw (w .there);
-            count = refl;
-            stand = located-peaks h s next (w .there);
+            is = ap (located h next (w .value)) (l .end);
+            stand = l .stand;
           })
 
       pub labels-short : (list : PeakList) → ok list ≡ readPeaks h next s → {n : ℕ} {carries : List ℕ} → refused n carries ≡ withLabels h p list s → RanOut 4 packet s at n carries
-      labels-short list g i = let l = listed list g in ran-out-behind packet s at h (k .profile) (l .peaks) list p (l .behind) (l .count) i
+      labels-short list g i = let l = list-found list g in ran-out-behind packet s at next h (k .profile) (l .peaks) list p (l .behind) (l .is) i
 
-      pub whole : (list : PeakList) → ok list ≡ readPeaks h next s → {v : Places} → ok v ≡ withLabels h p list s → Stands packet s at (k .profile) v
-      whole list g i = let l = listed list g in found-behind packet s at h (k .profile) (l .peaks) list p (l .behind) (l .count) (k .is) (l .stand) i
+      pub whole : (list : PeakList) → ok list ≡ readPeaks h next s → {v : Places} → ok v ≡ withLabels h p list s → Stands packet (fullPlaces at) s at (k .profile) v
+      whole list g i =
+          let l = list-found list g in
+          let packetOf : Streams → Packet = λ ls. record { header = h; profile = k .profile; peaks = l .peaks; labels = ls } in
+          found-behind packet s at next h (k .profile) (l .peaks) list p (l .behind) (l .is) (fullPlaces at)
+          (λ ls end. ap (λ q. placed q next (packetOf ls) end) (k .is) ∙ ap (λ (n : ℕ). placed (describeProfile (h .layout) at (k .profile)) n (packetOf ls) end) (k .end)) (l .stand) i
 
 -- the stages behind a header in turn
 module _ (h : PacketHeader) (at : ℕ) (s : List ℕ) {p : PacketProfile} {next : ℕ} (f : ok (p, next) ≡ findProfile h at s) where

@@ -1,16 +1,21 @@
 -- A whole packet (`ScanDataPacket::read` of scan_data.rs), its profile read chunk by chunk.
+use Prim.Native.Nat.{ℕ}
 use mathlib.Core.Bool.{cond}
 use lib.Dec.{eqb}
 use Rattle.parser.specs.Parser.{Parser, done, _>>=_}
 use Rattle.packet_header.specs.Header.{header}
 use Rattle.packet_header.specs.declared.PacketHeader.{PacketHeader}
 use Rattle.peak_list.specs.PeakList.{peakList}
-use Rattle.profile.specs.Profile.{profile}
+use Rattle.profile.specs.Profile.{profile, profileSize}
 use Rattle.scan_packet.specs.Packet.{Stored, absent, present, Packet, behindPeaks}
 
 -- a profile of size 0 is none. Any other is as long as its chunks, whatever its size says
 unfoldable pub stored : PacketHeader → Parser Stored
 stored h = cond (eqb (h .«profile_size») 0) (done absent) (profile (h .layout) >>= λ p. done (present p))
+
+abbrev pub storedSize : PacketHeader → Stored → ℕ
+storedSize h absent = 0
+storedSize h (present p) = profileSize (h .layout) p
 
 unfoldable pub packet : Parser Packet
 packet = do

@@ -1,24 +1,26 @@
--- What finding a packet's parts answers: header, profile, peak list and labels in turn.
+-- Where the parts of a whole packet stand.
 use Prim.Native.Nat.{ℕ, _+_}
 use mathlib.Core.List.{List}
-use Rattle.refusal.specs.Outcome.{Outcome, ok, andThen}
+use Rattle.refusal.specs.Outcome.{Outcome, ok}
 use Rattle.parser.specs.Call.{outcome, single}
-use Rattle.packet_header.specs.Header.{readHeader}
-use Rattle.packet_header.specs.declared.PacketHeader.{PacketHeader}
-use Rattle.peak_list.specs.PeakList.{readPeaks}
-use Rattle.scan_packet.specs.Packet.{describeProfile}
-use Rattle.scan_packet.specs.Places.{withLabels}
-use Rattle.scan_packet.specs.declared.PacketProfile.{PacketProfile}
+use Rattle.peaks.specs.Peaks.{Peak}
+use Rattle.labels.specs.Labels.{Streams}
+use Rattle.scan_packet.specs.Packet.{Packet, describeProfile, placed}
+use Rattle.scan_packet.specs.Places.{peaksOf, streamsOf}
 use Rattle.scan_packet.specs.declared.Places.{Places}
-use Rattle.packet_places.specs.Packet.{stored}
+use Rattle.packet_places.specs.Packet.{storedSize, packet}
 
--- the profile behind the header, and the place behind it
-unfoldable pub findProfile : PacketHeader → ℕ → List ℕ → Outcome (PacketProfile × ℕ)
-findProfile h at s = outcome (single 4 (at + 40) (stored h) (λ p next. ok (describeProfile (h .layout) at p, next))) s
-
-unfoldable pub behindHeader : PacketHeader → ℕ → List ℕ → Outcome Places
-behindHeader h at s = andThen (findProfile h at s) (λ p. andThen (readPeaks h (p .1) s) (λ list. withLabels h (p .0) list s))
+-- of the packet at `at`, which ends at `next`
+abbrev pub fullPlaces : ℕ → Packet → ℕ → Places
+fullPlaces at p next = placed (describeProfile (p .header .layout) at (p .profile)) (at + 40 + storedSize (p .header) (p .profile)) p next
 
 -- what `find_places` answers
 unfoldable pub findPlaces : ℕ → List ℕ → Outcome Places
-findPlaces at s = andThen (readHeader at s) (λ h. behindHeader h at s)
+findPlaces at run = outcome (single 4 at packet (λ p next. ok (fullPlaces at p next))) run
+
+-- the peaks and the labels that stand at the places it answers, and those that are read
+abbrev pub listsAt : List ℕ → Places → List Peak × Streams
+listsAt s v = (peaksOf v s, streamsOf v s)
+
+unfoldable pub findLists : ℕ → List ℕ → Outcome (List Peak × Streams)
+findLists at run = outcome (single 4 at packet (λ p _. ok (p .peaks, p .labels))) run

@@ -3,9 +3,10 @@
 ghost use mathlib.Core.Path.{_≡_};
 ghost use Prim.Native.Nat.{_≤_};
 ghost use Rattle.parser.specs.Parser.{left};
+ghost use Rattle.refusal.specs.Outcome.{onOk};
 ghost use Rattle.scan_packet.specs.Places.{toldPlaces};
-ghost use Rattle.packet_places.specs.Places.{findProfile, behindHeader, findPlaces};
-ghost use Rattle.packet_places.specs.Told.{toldProfile};
+ghost use Rattle.packet_places.specs.Places.{findPlaces, listsAt, findLists};
+ghost use Rattle.packet_places.specs.Stages.{findProfile, toldProfile, behindHeader};
 use packet_header::HeaderAnswer;
 use packet_header::PacketHeader;
 use peak_list::PeakListAnswer;
@@ -53,6 +54,7 @@ fn behind_header(run: &[u8], at: u64, h: PacketHeader) -> PlacesAnswer
 // Where the parts of the packet at a place of the run stand.
 pub fn find_places(run: &[u8], at: u64) -> PlacesAnswer
     ensures { λ r. ⌜ toldPlaces r ≡ findPlaces at (now (run .entry)) ⌝ }
+    ensures { λ r. ⌜ onOk (listsAt (now (run .entry))) (toldPlaces r) ≡ findLists at (now (run .entry)) ⌝ }
 {
     match PacketHeader::read(run, at) {
         HeaderAnswer::Refused(r) => PlacesAnswer::Refused(r),

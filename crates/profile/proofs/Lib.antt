@@ -1,4 +1,5 @@
 pub mod Chunks
 pub mod Answers
+pub mod Size
 pub mod Told
 pub mod LongerBytes

@@ -1,5 +1,5 @@
 -- The profile of a packet (`Profile::read` of scan_data.rs).
-use Prim.Native.Nat.{ℕ, _+_, _%_}
+use Prim.Native.Nat.{ℕ, _+_, _*_, _%_}
 use mathlib.Core.Bool.{Bool, true, false, not}
 use mathlib.Core.List.{List}
 use lib.Dec.{eqb}
@@ -88,6 +88,13 @@ profile layout = do
   a ← axis
   cs ← chunks (isFudged layout) (a .peakCount)
   done (a, cs)
+
+-- how many bytes it takes
+abbrev pub chunkSize : Bool → Chunk → ℕ
+chunkSize fudged c = headSize fudged + points c * 4
+
+abbrev pub profileSize : ℕ → Axis × List Chunk → ℕ
+profileSize layout p = 24 + sum (chunkSize (isFudged layout)) (p .1)
 
 -- the record of a profile that stands at `at`
 unfoldable pub located : ℕ → ℕ → Axis × List Chunk → Profile

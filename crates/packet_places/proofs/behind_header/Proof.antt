@@ -1,37 +1,14 @@
--- `packet_places::behind_header` meets its contract: profile, peak list and labels decide in turn.
--- Assumes nothing.
+-- Profile, peak list and labels decide in turn.
 use mathlib.Core.Path.{sym, ap, _∙_}
 use denote.Ref.{now}
 use Rattle.peak_list.specs.PeakList.{readPeaks, toldList}
 use Rattle.scan_packet.specs.Places.{withLabels}
 use Rattle.refusal.specs.Outcome.{andThen}
-use Rattle.packet_places.specs.Places.{behindHeader}
-use Rattle.packet_places.specs.Told.{toldProfile}
+use Rattle.packet_places.specs.Stages.{toldProfile, behindHeader}
 use Rattle.packet_places.proofs.Stages.{then-no-peaks, then-labels}
 use borrow.Author.Needs.{needs}
 use Rattle.packet_places.proofs.behind_header.Statement.{statement}
 use Rattle.packet_places.proofs.behind_header.Tie as tie
-
-find-profile-requires : tie.Need-find-profile-requires
-find-profile-requires c κs = search needs
-
-enum-known-r : tie.Need-enum-known-r
-enum-known-r c = search needs
-
-enum-known-profile : tie.Need-enum-known-profile
-enum-known-profile c = search needs
-
-read-peaks-requires : tie.Need-read-peaks-requires
-read-peaks-requires c κs = search needs
-
-enum-known-r-2 : tie.Need-enum-known-r-2
-enum-known-r-2 c = search needs
-
-enum-known-list : tie.Need-enum-known-list
-enum-known-list c = search needs
-
-with-labels-requires : tie.Need-with-labels-requires
-with-labels-requires c κs = search needs
 
 returns : tie.Need-returns
 unfolding behindHeader
@@ -48,19 +25,19 @@ returns-2 c =
 returns-3 : tie.Need-returns-3
 returns-3 c =
     let a = c .before .before .before .before .before .before .before .before .before .before .args in
-    then-labels (a .h) (a .at) (now (a .run)) (sym (ap toldProfile (c .before .before .before .before .before .before .profile .given .1)) ∙ c .before .before .before .before .before .before .before .before .find-profile .ensures) (sym (ap toldList (c .before .before .list .given .1)) ∙ c .before .before .before .before .read-peaks .ensures) (c .with-labels .ensures)
+    then-labels (a .h) (a .at) (now (a .run)) (sym (ap toldProfile (c .before .before .before .before .before .before .profile .given .1)) ∙ c .before .before .before .before .before .before .before .before .find-profile .ensures) (sym (ap toldList (c .before .before .list .given .1)) ∙ c .before .before .before .before .read-peaks .ensures) (c .with-labels .ensures .0)
 
 pub behind-header-spec : {M : Type 1} → statement M
 behind-header-spec =
     tie.close
     (tie.spec
-    find-profile-requires
-    enum-known-r
-    enum-known-profile
-    read-peaks-requires
-    enum-known-r-2
-    enum-known-list
-    with-labels-requires
+    (search needs)
+    (search needs)
+    (search needs)
+    (search needs)
+    (search needs)
+    (search needs)
+    (search needs)
     returns
     returns-2
     returns-3)

@@ -1,23 +1,14 @@
--- `packet_places::find_places` meets its contract: the header, and what follows it.
--- Assumes nothing.
+-- The header, and what follows it.
 use mathlib.Core.Path.{sym, ap, _∙_}
 use denote.Ref.{now}
 use Rattle.packet_header.specs.Header.{told}
 use Rattle.packet_header.proofs.Size.{header-read}
 use Rattle.refusal.specs.Outcome.{andThen}
-use Rattle.packet_places.specs.Places.{behindHeader, findPlaces}
+use Rattle.packet_places.specs.Stages.{behindHeader, inTurn}
+use Rattle.packet_places.proofs.Answers.{by-stages}
 use borrow.Author.Needs.{needs}
 use Rattle.packet_places.proofs.find_places.Statement.{statement}
 use Rattle.packet_places.proofs.find_places.Tie as tie
-
-read-requires : tie.Need-read-requires
-read-requires c κs = search needs
-
-enum-known-r : tie.Need-enum-known-r
-enum-known-r c = search needs
-
-enum-known-h : tie.Need-enum-known-h
-enum-known-h c = search needs
 
 behind-header-requires : tie.Need-behind-header-requires
 behind-header-requires c κs =
@@ -25,18 +16,19 @@ behind-header-requires c κs =
     header-read (now (a .run)) (a .at) (sym (ap told (c .before .h .given .1)) ∙ c .before .before .before .read .ensures) .0
 
 returns : tie.Need-returns
-unfolding findPlaces
+unfolding inTurn
 returns c =
     let a = c .before .before .before .before .before .args in
-    ap (λ o. andThen o (λ h. behindHeader h (a .at) (now (a .run)))) (sym (ap told (c .before .r .given .1)) ∙ c .before .before .before .read .ensures)
+    by-stages (now (a .run)) (a .at) _ (ap (λ o. andThen o (λ h. behindHeader h (a .at) (now (a .run)))) (sym (ap told (c .before .r .given .1)) ∙ c .before .before .before .read .ensures))
 
 returns-2 : tie.Need-returns-2
-unfolding findPlaces
+unfolding inTurn
 returns-2 c =
     let a = c .before .before .before .before .before .before .args in
-    c .behind-header .ensures ∙ ap (λ o. andThen o (λ h. behindHeader h (a .at) (now (a .run)))) (sym (ap told (c .before .before .h .given .1)) ∙ c .before .before .before .before .read .ensures)
+    by-stages (now (a .run)) (a .at) _
+    (c .behind-header .ensures ∙ ap (λ o. andThen o (λ h. behindHeader h (a .at) (now (a .run)))) (sym (ap told (c .before .before .h .given .1)) ∙ c .before .before .before .before .read .ensures))
 
 pub find-places-spec : {M : Type 1} → statement M
 find-places-spec =
     tie.close
-    (tie.spec read-requires enum-known-r enum-known-h behind-header-requires returns returns-2)
+    (tie.spec (search needs) (search needs) (search needs) behind-header-requires returns returns-2)
