@@ -1,94 +1,70 @@
 -- What an event's reader left: the event over the slices' fronts, or a refusal for want of room.
--- Assumes nothing.
-use mathlib.Core.Path.{_≡_, refl, ap}
+use mathlib.Core.Path.{_≡_, refl, ap, sym, _∙_}
 use Prim.Native.Nat.{ℕ, _≤_}
 use native.Mathlib.Omega.{arith}
-use mathlib.Core.Bool.{Bool, true, false, _&&_, cond}
-use mathlib.Core.List.{List, []}
-use lib.Dec.{leb}
+use mathlib.Core.Bool.{Bool, true, false}
+use mathlib.Core.List.{List, [], _∷_}
 use lib.ListN.{length, take, drop}
 use lib.Seq.{take-append-seam}
-use borrow.Author.Tests.{leb-true}
 use Rattle.refusal.specs.Outcome.{Outcome, ok, refused}
-use Rattle.refusal.specs.Number.{number, carried, toldRefusal}
-use Rattle.refusal.specs.declared.Refusal.{Refusal}
+use Rattle.lists.specs.Left.{Left, ifRoom}
 use Rattle.lists.specs.Written.{over}
-use Rattle.lists.proofs.Cases.{and-true}
 use Rattle.lists.proofs.Laws.{length-over}
-use Rattle.scan_event.specs.Event.{Event, decoded, describe, lentOf, hasRoom, handOut, Result, result, leaves}
+use Rattle.lists.proofs.Left.{fits-true, wrote, stayed}
+use Rattle.scan_event.specs.Event.{Event, Decoded, decoded, describe, Slices, lentOf, hasRoom, handOut, written}
 use Rattle.scan_event.specs.declared.ScanEvent.{ScanEvent}
-use Rattle.scan_event.specs.declared.EventAnswer.the-variants as answer
 
-module _ (e : Event) (next : ℕ) (p q g c : List ℕ) where
-  abbrev pub fits : Bool
-  fits = hasRoom (lentOf p q g c) (length (e .preamble)) (length (e .reactions)) (length (e .coefficients))
+-- ---- back from the room test
+pub room-given : {A : Type 0} (room : Bool) (v : A) {a : A} → ok a ≡ ifRoom room v → (room ≡ true) × (a ≡ v)
+room-given true v h = (refl, cc)
+room-given false v h = let c : _≡_ {A = ℕ} 0 1 = cc in absurd (omega arith)
 
-  module _ (p′ q′ g′ c′ : List ℕ) where
+pub room-refused : {A : Type 0} (room : Bool) (v : A) {n : ℕ} {carries : List ℕ} → refused n carries ≡ ifRoom room v → (room ≡ false) × (n ≡ 8) × (carries ≡ [])
+room-refused true v h = let c : _≡_ {A = ℕ} 0 1 = cc in absurd (omega arith)
+room-refused false v h = (refl, cc, cc)
+
+module _ (e : Event) (next : ℕ) (xs : Slices) where
+  abbrev pub roomy : Bool
+  roomy = hasRoom (lentOf xs) (length (e .preamble)) (length (e .reactions)) (length (e .coefficients))
+
+  module _ (ys : Slices) where
     -- refused: nothing was written
-    pub record Left (r : Refusal) : Type 0 where
-      pub full : fits ≡ false
-      pub number-is : number r ≡ 8
-      pub carries : carried r ≡ []
-      pub preamble : p′ ≡ p
-      pub precursors : q′ ≡ q
-      pub energies : g′ ≡ g
-      pub coefficients : c′ ≡ c
-
-    left-as : (b : Bool) → fits ≡ b → (r : Refusal) → result (answer.Refused r) p′ q′ g′ c′ ≡ leaves (cond b (ok (decoded e next)) (refused 8 [])) p q g c → Left r
-    left-as true i r h = let z : _≡_ {A = Outcome ScanEvent} (toldRefusal r) (ok (decoded e next .event)) = ap (λ (w : Result). w .answer) h in let n : _≡_ {A = ℕ} 0 1 = cc in absurd (omega arith)
-    left-as false i r h =
-        let z : _≡_ {A = Outcome ScanEvent} (toldRefusal r) (refused 8 []) = ap (λ (w : Result). w .answer) h in
-        record {
-          full = i;
-          number-is = cc;
-          carries = cc;
-          preamble = ap (λ (w : Result). w .preamble) h;
-          precursors = ap (λ (w : Result). w .precursors) h;
-          energies = ap (λ (w : Result). w .energies) h;
-          coefficients = ap (λ (w : Result). w .coefficients) h;
-        }
-
-    pub left : (r : Refusal) → result (answer.Refused r) p′ q′ g′ c′ ≡ leaves (handOut (lentOf p q g c) e next) p q g c → Left r
+    pub left : {n : ℕ} {carries : List ℕ} → Left (λ (d : Decoded). d .event) written (handOut (lentOf xs) e next) xs (refused n carries) ys
+        → (roomy ≡ false) × (n ≡ 8) × (carries ≡ []) × (ys ≡ xs)
     unfolding handOut
-    left r h = left-as fits refl r h
+    left l =
+        let w = stayed l in
+        let f = room-refused roomy (decoded e next) (w .0) in
+        (f .0, f .1, f .2, w .1)
 
     -- an event: it was written
     pub record Handed (v : ScanEvent) : Type 0 where
-      pub room : fits ≡ true
+      pub room : roomy ≡ true
       pub is : v ≡ decoded e next .event
-      pub preamble : p′ ≡ over (e .preamble) p
-      pub precursors : q′ ≡ over (decoded e next .precursors) q
-      pub energies : g′ ≡ over (decoded e next .energies) g
-      pub coefficients : c′ ≡ over (e .coefficients) c
+      pub leaves : ys ≡ written (decoded e next) xs
 
-    handed-as : (b : Bool) → fits ≡ b → (v : ScanEvent) → result (answer.Event v) p′ q′ g′ c′ ≡ leaves (cond b (ok (decoded e next)) (refused 8 [])) p q g c → Handed v
-    handed-as false i v h = let z : _≡_ {A = Outcome ScanEvent} (ok v) (refused 8 []) = ap (λ (w : Result). w .answer) h in let n : _≡_ {A = ℕ} 0 1 = cc in absurd (omega arith)
-    handed-as true i v h =
-        let z : _≡_ {A = Outcome ScanEvent} (ok v) (ok (decoded e next .event)) = ap (λ (w : Result). w .answer) h in
-        record {
-          room = i;
-          is = cc;
-          preamble = ap (λ (w : Result). w .preamble) h;
-          precursors = ap (λ (w : Result). w .precursors) h;
-          energies = ap (λ (w : Result). w .energies) h;
-          coefficients = ap (λ (w : Result). w .coefficients) h;
-        }
-
-    pub handed : (v : ScanEvent) → result (answer.Event v) p′ q′ g′ c′ ≡ leaves (handOut (lentOf p q g c) e next) p q g c → Handed v
+    pub handed : {v : ScanEvent} → Left (λ (d : Decoded). d .event) written (handOut (lentOf xs) e next) xs (ok v) ys → Handed v
     unfolding handOut
-    handed v h = handed-as fits refl v h
+    handed l =
+        let w = wrote l in
+        let f = room-given roomy (decoded e next) (w .is) in
+        record { room = f .0; is = w .answered ∙ ap (λ (d : Decoded). d .event) (f .1); leaves = w .written ∙ ap (λ (d : Decoded). written d xs) (f .1) }
 
     -- its coefficients stand at the front of their slice
     module _ {v : ScanEvent} (w : Handed v) where
-      pub count-is : v .coefficients ≡ length (e .coefficients)
+      count-is : v .coefficients ≡ length (e .coefficients)
       unfolding describe
       count-is = ap (λ (x : ScanEvent). x .coefficients) (w .is)
 
-      pub within : v .coefficients ≤ length c′
-      within =
-          let fit : length (e .coefficients) ≤ length c = leb-true _ _ (and-true (leb (length (e .preamble)) (length p) && leb (length (e .reactions)) (length q) && leb (length (e .reactions)) (length g)) (leb (length (e .coefficients)) (length c)) (w .room) .1) in
-          omega (arith, count-is, fit, ap length (w .coefficients), length-over (e .coefficients) c fit)
+      in-slice : ys .coefficients ≡ over (e .coefficients) (xs .coefficients)
+      in-slice = ap (λ (z : Slices). z .coefficients) (w .leaves)
 
-      pub front : take (v .coefficients) c′ ≡ e .coefficients
+      pub within : v .coefficients ≤ length (ys .coefficients)
+      within =
+          let l = lentOf xs in
+          let fit = fits-true ((length (e .preamble), l .preamble) ∷ (length (e .reactions), l .precursors) ∷ (length (e .reactions), l .energies) ∷ (length (e .coefficients), l .coefficients) ∷ []) (w .room) .1 .1 .1 .0 in
+          omega (arith, count-is, fit, ap length in-slice, length-over (e .coefficients) (xs .coefficients) fit)
+
+      pub front : take (v .coefficients) (ys .coefficients) ≡ e .coefficients
       unfolding over
-      front = rw (count-is, w .coefficients) (take-append-seam (e .coefficients) (drop (length (e .coefficients)) c))
+      front = rw (count-is, in-slice) (take-append-seam (e .coefficients) (drop (length (e .coefficients)) (xs .coefficients)))

@@ -1,43 +1,36 @@
--- A scan's result from what was written: a scan over the slices' fronts, or a refusal that leaves them.
--- Assumes nothing.
-use mathlib.Core.Path.{_≡_, ap, sym, _∙_}
-use Prim.Native.Nat.{ℕ, _≤_, _<_}
-use native.Mathlib.Omega.{arith}
-use mathlib.Core.List.{List}
+-- A scan's answer from what was written: a scan over the slices' fronts, or a refusal that leaves them.
+use mathlib.Core.Path.{_≡_, sym, _∙_}
+use Prim.Native.Nat.{ℕ, _≤_}
+use mathlib.Core.Bool.{Bool, true, false}
+use mathlib.Core.List.{List, [], _∷_}
 use lib.Ieee.{Float}
-use lib.ListN.{length, take, length-map}
-use borrow.Author.Tests.{le-leb, lt-leb}
-use Rattle.refusal.specs.Outcome.{Outcome, ok, refused}
-use Rattle.refusal.specs.Number.{toldRefusal}
+use lib.ListN.{length, take}
+use Rattle.refusal.specs.Outcome.{ok, refused}
 use Rattle.refusal.specs.declared.Refusal.{Refusal}
 use Rattle.refusal.specs.declared.Refusal.the-variants.{NoRoom}
-use Rattle.lists.specs.Written.{over, fitting}
-use Rattle.lists.proofs.Laws.{fitting-all}
+use Rattle.refusal.specs.declared.CountAnswer.{CountAnswer}
+use Rattle.lists.specs.Left.{fits, handOutPairs, LeftPairs}
+use Rattle.lists.proofs.Left.{fits-true, left-refused, left-same, left-written}
 use Rattle.parser.specs.Call.{outcome}
 use Rattle.scan_index.specs.declared.ScanIndexEntry.{ScanIndexEntry}
-use Rattle.scan_event.specs.Event.{lentOf}
+use Rattle.scan_event.specs.Event.{decoded, lentOf}
 use Rattle.scan_event.specs.Event as event
 use Rattle.scan_event.specs.declared.ScanEvent.{ScanEvent}
 use Rattle.scan_event.specs.declared.EventAnswer.{EventAnswer}
 use Rattle.scan_event.specs.declared.EventAnswer.the-variants as eventAnswer
 use Rattle.events.specs.Event.{readEvent}
 use Rattle.event_walk.specs.Walk.{eventEnd}
-use Rattle.pairs.specs.Pairs.{Pair, masses, intensities}
+use Rattle.calibration.proofs.Columns.{pairs-room}
 use Rattle.tray_header.specs.declared.TrayHeader.{TrayHeader}
 use Rattle.tray_data.specs.Data.{pairs, findData, contentAt, countOf}
 use Rattle.tray_data.specs.declared.ScanData.{ScanData}
 use Rattle.tray_data.proofs.Answers.{data-found, data-refused, data-count}
-use Rattle.tray_scan.specs.Scan.{formatIn, Lengths, Decoded, handOut, withData, eventAndData, scanOfEntry, result, resultOf}
+use Rattle.tray_scan.specs.Scan.{formatIn, Lengths, Decoded, handOut, withData, eventAndData, scanOfEntry, Slices, Answers}
 use Rattle.tray_scan.specs.Judged.{Judged}
 use Rattle.tray_scan.specs.declared.Scan.{Scan}
 use Rattle.tray_scan.specs.declared.ScanAnswer.the-variants as answer
 use Rattle.tray_scan.proofs.Parts.{end-short, Ended, ended, read-ended}
 use Rattle.tray_scan.proofs.Handed.{left, Handed, handed, within, front}
-
-pub refused-result : (call : Lengths → Outcome Decoded) (p q g c : List ℕ) (m i : List Float) (r : Refusal)
-    → toldRefusal r ≡ call (record { event = lentOf p q g c; mz = length m; intensity = length i })
-    → result (answer.Refused r) p q g c m i ≡ resultOf call p q g c m i
-refused-result call p q g c m i r h = rw (← h)
 
 -- the event or the data are not there
 module _ (h : TrayHeader) (entry : ScanIndexEntry) (at : ℕ) (s : List ℕ) (lent : Lengths) {n : ℕ} {carries : List ℕ} where
@@ -66,46 +59,43 @@ module _ (h : TrayHeader) (entry : ScanIndexEntry) (at : ℕ) (s : List ℕ) (d 
   counted : (coefficients : List ℕ) → length (pairs coefficients (contentAt d s)) ≡ countOf d
   counted = data-count (h .«data») (entry .offset) (entry .«data_size») s (formatIn h) (j .found)
 
-  module _ (p q g c : List ℕ) (m i : List Float) {n : ℕ} (hn : n ≡ countOf d) where
-    pub no-masses : length m < n → result (answer.Refused NoRoom) p q g c m i ≡ resultOf (λ lent. scanOfEntry lent h entry at s) p q g c m i
-    unfolding handOut
-    no-masses l =
-        let k = counted (there .event .coefficients) in
-        refused-result (λ lent. scanOfEntry lent h entry at s) p q g c m i NoRoom (sym (behind-is _ ∙ rw (k, ← hn, lt-leb n (length m) l)))
+  module _ (xs : Slices) {n : ℕ} (hn : n ≡ countOf d) where
+    abbrev roomFor : Bool
+    roomFor = fits ((n, length (xs .mz)) ∷ (n, length (xs .intensity)) ∷ [])
 
-    pub no-intensities : n ≤ length m → length i < n → result (answer.Refused NoRoom) p q g c m i ≡ resultOf (λ lent. scanOfEntry lent h entry at s) p q g c m i
+    pub no-pairs-room : roomFor ≡ false → Answers (λ lent. scanOfEntry lent h entry at s) xs (answer.Refused NoRoom) xs
     unfolding handOut
-    no-intensities fit l =
-        let k = counted (there .event .coefficients) in
-        refused-result (λ lent. scanOfEntry lent h entry at s) p q g c m i NoRoom (sym (behind-is _ ∙ rw (k, ← hn, le-leb n (length m) fit, lt-leb n (length i) l)))
+    no-pairs-room f = let k = counted (there .event .coefficients) in left-refused (sym (behind-is _ ∙ rw (k, ← hn, f)))
 
-    module _ (fitM : n ≤ length m) (fitI : n ≤ length i) {p′ q′ g′ c′ : List ℕ} where
-      pub no-event-room : (r : Refusal) {x : EventAnswer} → x ≡ eventAnswer.Refused r → event.result x p′ q′ g′ c′ ≡ event.resultOf (λ lent. readEvent (h .version) (h .primary) (h .dependent) lent at s) p q g c
-          → result (answer.Refused r) p′ q′ g′ c′ m i ≡ resultOf (λ lent. scanOfEntry lent h entry at s) p q g c m i
+    module _ (room : roomFor ≡ true) {ys : event.Slices} where
+      pub no-event-room : (r : Refusal) (x : EventAnswer) → x ≡ eventAnswer.Refused r
+          → event.Answers (λ lent. readEvent (h .version) (h .primary) (h .dependent) lent at s) (xs .event) x ys
+          → Answers (λ lent. scanOfEntry lent h entry at s) xs (answer.Refused r) (record { event = ys; mz = xs .mz; intensity = xs .intensity })
       unfolding handOut
-      no-event-room r hx e =
-          let w = left (there .event) (j .end) p q g c p′ q′ g′ c′ r (sym (ap (λ y. event.result y p′ q′ g′ c′) hx) ∙ e ∙ ap (λ o. event.leaves o p q g c) (read-ended h s at (lentOf p q g c) there)) in
+      no-event-room r x hx l =
+          let w = left (there .event) (j .end) (xs .event) ys (rw hx at (left-same (read-ended h s at (lentOf (xs .event)) there) l)) in
           let k = counted (there .event .coefficients) in
-          rw (w .preamble, w .precursors, w .energies, w .coefficients)
-          (refused-result (λ lent. scanOfEntry lent h entry at s) p q g c m i r
-          (rw (w .number-is, w .carries) (sym (behind-is _ ∙ rw (k, ← hn, le-leb n (length m) fitM, le-leb n (length i) fitI, w .full)))))
+          rw (w .3) (left-refused (rw (w .1, w .2) (sym (behind-is _ ∙ rw (k, ← hn, room, w .0)))))
 
-      module _ {v : ScanEvent} {x : EventAnswer} (hx : x ≡ eventAnswer.Event v) (e : event.result x p′ q′ g′ c′ ≡ event.resultOf (λ lent. readEvent (h .version) (h .primary) (h .dependent) lent at s) p q g c) where
-        written : Handed (there .event) (j .end) p q g c p′ q′ g′ c′ v
-        written = handed (there .event) (j .end) p q g c p′ q′ g′ c′ v (sym (ap (λ y. event.result y p′ q′ g′ c′) hx) ∙ e ∙ ap (λ o. event.leaves o p q g c) (read-ended h s at (lentOf p q g c) there))
+      module _ {v : ScanEvent} (x : EventAnswer) (hx : x ≡ eventAnswer.Event v)
+          (l : event.Answers (λ lent. readEvent (h .version) (h .primary) (h .dependent) lent at s) (xs .event) x ys) where
+        event-is : Handed (there .event) (j .end) (xs .event) ys v
+        event-is = handed (there .event) (j .end) (xs .event) ys (rw hx at (left-same (read-ended h s at (lentOf (xs .event)) there) l))
 
-        pub coefficients-within : v .coefficients ≤ length c′
-        coefficients-within = within (there .event) (j .end) p q g c p′ q′ g′ c′ written
+        pub coefficients-within : v .coefficients ≤ length (ys .coefficients)
+        coefficients-within = within (there .event) (j .end) (xs .event) ys event-is
 
-        pub scan-result : {m′ i′ : List Float} → m′ ≡ fitting (masses (pairs (take (v .coefficients) c′) (contentAt d s))) m
-            → i′ ≡ fitting (intensities (pairs (take (v .coefficients) c′) (contentAt d s))) i
-            → result (answer.Scan (record { entry = entry; event = v; pairs = n })) p′ q′ g′ c′ m′ i′ ≡ resultOf (λ lent. scanOfEntry lent h entry at s) p q g c m i
+        pub scan-result : (r : CountAnswer) {m i : List Float}
+            → LeftPairs (λ a b. handOutPairs a b (pairs (take (v .coefficients) (ys .coefficients)) (contentAt d s))) (xs .mz) (xs .intensity) r m i
+            → Answers (λ lent. scanOfEntry lent h entry at s) xs (answer.Scan (record { entry = entry; event = v; pairs = n })) (record { event = ys; mz = m; intensity = i })
         unfolding handOut
-        scan-result {m′} {i′} hm hi =
-            let w = written in
-            let F = front (there .event) (j .end) p q g c p′ q′ g′ c′ w in
+        scan-result r p =
+            let w = event-is in
             let ps = pairs (there .event .coefficients) (contentAt d s) in
             let size : length ps ≡ n = counted (there .event .coefficients) ∙ sym hn in
-            let M : m′ ≡ over (masses ps) m = hm ∙ rw F (fitting-all (masses ps) m (omega (arith, length-map ps (λ (x : Pair). x .0), size))) in
-            let I : i′ ≡ over (intensities ps) i = hi ∙ rw F (fitting-all (intensities ps) i (omega (arith, length-map ps (λ (x : Pair). x .1), size))) in
-            rw (behind-is _, size, le-leb n (length m) fitM, le-leb n (length i) fitI, w .room, M, I, w .preamble, w .precursors, w .energies, w .coefficients) (rw (w .is))
+            let z = fits-true ((n, length (xs .mz)) ∷ (n, length (xs .intensity)) ∷ []) room in
+            let both = pairs-room ps (xs .mz) (xs .intensity) r (rw size (z .0)) (rw size (z .1 .0)) (rw (front (there .event) (j .end) (xs .event) ys w) at p) in
+            left-written {a = record { scan = record { entry = entry; event = decoded (there .event) (j .end) .event; pairs = length ps }; event = decoded (there .event) (j .end); pairs = ps }}
+            (sym (behind-is _ ∙ rw (size, room, w .room)))
+            (rw (w .is, size))
+            (rw (w .leaves, both .0, both .1))

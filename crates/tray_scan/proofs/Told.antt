@@ -1,5 +1,4 @@
 -- A scan's answer is known by what it tells: a promise that is stated through `told` leaves one answer.
--- Assumes nothing.
 use mathlib.Core.Path.{_≡_, ap}
 use Rattle.refusal.proofs.Told.{refusal-one}
 use Rattle.tray_scan.specs.Scan.{told}

@@ -1,13 +1,14 @@
 -- The scan of an entry of a tray (document 01, "Tray"): its event, the data, and the pairs that they give.
-use Prim.Native.Nat.{ℕ, _-_}
-use mathlib.Core.Bool.{_&&_, cond}
-use mathlib.Core.List.{List, []}
-use lib.Dec.{leb, eqb}
+use Prim.Native.Nat.{ℕ}
+use mathlib.Core.Bool.{_&&_}
+use mathlib.Core.List.{List, [], _∷_}
+use lib.Dec.{eqb}
 use lib.Ieee.{Float}
 use lib.ListN.{length}
-use Rattle.refusal.specs.Outcome.{Outcome, ok, refused}
+use Rattle.refusal.specs.Outcome.{Outcome, ok}
 use Rattle.refusal.specs.Number.{toldRefusal}
 use Rattle.lists.specs.Written.{over}
+use Rattle.lists.specs.Left.{Left, fits, ifRoom, firsts, seconds}
 use Rattle.parser.specs.Parser.{Parser}
 use Rattle.parser.specs.Call.{Call, answer, part, outcome}
 use Rattle.scan_format.specs.Format.{formatOf}
@@ -18,7 +19,7 @@ use Rattle.scan_event.specs.Event.{Event, decoded, lentOf, hasRoom}
 use Rattle.scan_event.specs.Event as event
 use Rattle.scan_event.specs.declared.Lent.{Lent}
 use Rattle.event_walk.specs.Walk.{event as oneEvent}
-use Rattle.pairs.specs.Pairs.{Pair, masses, intensities}
+use Rattle.pairs.specs.Pairs.{Pair}
 use Rattle.tray_header.specs.declared.TrayHeader.{TrayHeader}
 use Rattle.tray_data.specs.Data.{Content, ofFinding, dataStart, scanData, pairs}
 use Rattle.tray_scan.specs.declared.Scan.{Scan}
@@ -48,13 +49,12 @@ pub record Decoded : Type 0 where
 unfoldable pub handOut : Lengths → ScanIndexEntry → Event → ℕ → Content → Outcome Decoded
 handOut lent entry e next content =
     let ps = pairs (e .coefficients) content in
-    cond (leb (length ps) (lent .mz) && leb (length ps) (lent .intensity) && hasRoom (lent .event) (length (e .preamble)) (length (e .reactions)) (length (e .coefficients)))
-    (ok (record {
+    ifRoom (fits ((length ps, lent .mz) ∷ (length ps, lent .intensity) ∷ []) && hasRoom (lent .event) (length (e .preamble)) (length (e .reactions)) (length (e .coefficients)))
+    (record {
       scan = record { entry = entry; event = decoded e next .event; pairs = length ps };
       event = decoded e next;
       pairs = ps;
-    }))
-    (refused 8 [])
+    })
 
 -- the data, part 4, of an entry and an event
 unfoldable pub withData : Lengths → TrayHeader → ScanIndexEntry → Event → ℕ → Call Decoded
@@ -74,36 +74,23 @@ abbrev pub told : ScanAnswer → Outcome Scan
 told (answer.Scan s) = ok s
 told (answer.Refused r) = toldRefusal r
 
--- a call's answer, and the six slices as it leaves them
-pub record Result : Type 0 where
-  pub answer : Outcome Scan
-  pub preamble : List ℕ
-  pub precursors : List ℕ
-  pub energies : List ℕ
-  pub coefficients : List ℕ
+-- the six lent slices: the event's four, and two for the pairs; and their lengths
+pub record Slices : Type 0 where
+  pub event : event.Slices
   pub mz : List Float
   pub intensity : List Float
 
-abbrev pub result : ScanAnswer → List ℕ → List ℕ → List ℕ → List ℕ → List Float → List Float → Result
-result r p q e c m i = record { answer = told r; preamble = p; precursors = q; energies = e; coefficients = c; mz = m; intensity = i }
+abbrev pub slices : List ℕ → List ℕ → List ℕ → List ℕ → List Float → List Float → Slices
+slices p q e c m i = record { event = event.slices p q e c; mz = m; intensity = i }
 
--- what follows from a call's outcome: a scan is written over the slices' fronts, a refused call leaves them
-abbrev pub leaves : Outcome Decoded → List ℕ → List ℕ → List ℕ → List ℕ → List Float → List Float → Result
-leaves (ok d) p q e c m i =
-    record {
-      answer = ok (d .scan);
-      preamble = over (d .event .preamble) p;
-      precursors = over (d .event .precursors) q;
-      energies = over (d .event .energies) e;
-      coefficients = over (d .event .coefficients) c;
-      mz = over (masses (d .pairs)) m;
-      intensity = over (intensities (d .pairs)) i;
-    }
-leaves (refused number carries) p q e c m i =
-    record { answer = refused number carries; preamble = p; precursors = q; energies = e; coefficients = c; mz = m; intensity = i }
+abbrev pub lengthsOf : Slices → Lengths
+lengthsOf xs = record { event = lentOf (xs .event); mz = length (xs .mz); intensity = length (xs .intensity) }
 
-abbrev pub lengthsOf : List ℕ → List ℕ → List ℕ → List ℕ → List Float → List Float → Lengths
-lengthsOf p q e c m i = record { event = lentOf p q e c; mz = length m; intensity = length i }
+-- a scan is written over the slices' fronts
+abbrev pub written : Decoded → Slices → Slices
+written d xs =
+    record { event = event.written (d .event) (xs .event); mz = over (firsts (d .pairs)) (xs .mz); intensity = over (seconds (d .pairs)) (xs .intensity) }
 
-abbrev pub resultOf : (Lengths → Outcome Decoded) → List ℕ → List ℕ → List ℕ → List ℕ → List Float → List Float → Result
-resultOf call p q e c m i = leaves (call (lengthsOf p q e c m i)) p q e c m i
+-- a call was lent the slices xs: it answers r, and leaves ys. The call goes by the slices' lengths
+abbrev pub Answers : (Lengths → Outcome Decoded) → Slices → ScanAnswer → Slices → Type 0
+Answers call xs r ys = Left (λ (d : Decoded). d .scan) written (call (lengthsOf xs)) xs (told r) ys

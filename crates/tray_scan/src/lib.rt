@@ -1,10 +1,11 @@
 // The scan of an entry: its event, and the pairs that the data give by that event's coefficients. All bytes are judged before
 // anything is written.
 ghost use mathlib.Core.Path.{_≡_};
-ghost use Rattle.tray_scan.specs.Scan.{formatIn, scanOfEntry, result, resultOf};
+ghost use Rattle.tray_scan.specs.Scan.{formatIn, scanOfEntry, slices, Answers};
 ghost use Rattle.tray_scan.specs.Judged.{Judged};
-use event_walk::EventPlace;
 use event_walk::event_end;
+use lists::holds;
+use refusal::CountAnswer;
 use refusal::Refusal;
 use scan_event::EventAnswer;
 use scan_event::ScanEvent;
@@ -12,9 +13,9 @@ use scan_format::ScanDataFormat;
 use scan_index::ScanIndexEntry;
 use tray_data::DataAnswer;
 use tray_data::ScanData;
+use tray_data::data_pairs;
 use tray_data::find_data;
 use tray_data::pair_count;
-use tray_data::write_data_pairs;
 use tray_header::TrayHeader;
 
 pub struct Scan {
@@ -51,38 +52,40 @@ fn hand_out(
     intensity: &mut [f64],
 ) -> ScanAnswer
     requires { ⌜ Judged h entry at (now run) found ⌝ }
-    ensures { λ r. ⌜ result r (now (preamble .exit)) (now (precursors .exit)) (now (energies .exit)) (now (coefficients .exit)) (now (mz .exit)) (now (intensity .exit))
-        ≡ resultOf (λ lent. scanOfEntry lent h entry at (now (run .entry))) (now (preamble .entry)) (now (precursors .entry)) (now (energies .entry)) (now (coefficients .entry)) (now (mz .entry)) (now (intensity .entry)) ⌝ }
+    ensures { λ r. ⌜ Answers (λ lent. scanOfEntry lent h entry at (now (run .entry)))
+        (slices (now (preamble .entry)) (now (precursors .entry)) (now (energies .entry)) (now (coefficients .entry)) (now (mz .entry)) (now (intensity .entry)))
+        r (slices (now (preamble .exit)) (now (precursors .exit)) (now (energies .exit)) (now (coefficients .exit)) (now (mz .exit)) (now (intensity .exit))) ⌝ }
 {
     let pairs = pair_count(found);
-    if pairs > mz.len() as u64 {
-        return ScanAnswer::Refused(Refusal::NoRoom);
-    }
-    if pairs > intensity.len() as u64 {
-        return ScanAnswer::Refused(Refusal::NoRoom);
-    }
-    match events::read(
-        run,
-        at,
-        h.version,
-        h.primary,
-        h.dependent,
-        preamble,
-        precursors,
-        energies,
-        coefficients,
+    if holds(
+        pairs,
+        mz.len() as u64,
+        holds(pairs, intensity.len() as u64, true),
     ) {
-        EventAnswer::Refused(r) => ScanAnswer::Refused(r),
-        EventAnswer::Event(event) => {
-            let n = event.coefficients as usize;
-            write_data_pairs(run, found, &coefficients[..n], mz, intensity);
-            ScanAnswer::Scan(Scan {
-                entry,
-                event,
-                pairs,
-            })
-        }
+        return match events::read(
+            run,
+            at,
+            h.version,
+            h.primary,
+            h.dependent,
+            preamble,
+            precursors,
+            energies,
+            coefficients,
+        ) {
+            EventAnswer::Refused(r) => ScanAnswer::Refused(r),
+            EventAnswer::Event(event) => {
+                let n = event.coefficients as usize;
+                data_pairs(run, found, &coefficients[..n], mz, intensity);
+                ScanAnswer::Scan(Scan {
+                    entry,
+                    event,
+                    pairs,
+                })
+            }
+        };
     }
+    ScanAnswer::Refused(Refusal::NoRoom)
 }
 
 // The scan of an entry, whose event stands at a place of the run.
@@ -98,12 +101,13 @@ pub fn scan_of_entry(
     mz: &mut [f64],
     intensity: &mut [f64],
 ) -> ScanAnswer
-    ensures { λ r. ⌜ result r (now (preamble .exit)) (now (precursors .exit)) (now (energies .exit)) (now (coefficients .exit)) (now (mz .exit)) (now (intensity .exit))
-        ≡ resultOf (λ lent. scanOfEntry lent h entry at (now (run .entry))) (now (preamble .entry)) (now (precursors .entry)) (now (energies .entry)) (now (coefficients .entry)) (now (mz .entry)) (now (intensity .entry)) ⌝ }
+    ensures { λ r. ⌜ Answers (λ lent. scanOfEntry lent h entry at (now (run .entry)))
+        (slices (now (preamble .entry)) (now (precursors .entry)) (now (energies .entry)) (now (coefficients .entry)) (now (mz .entry)) (now (intensity .entry)))
+        r (slices (now (preamble .exit)) (now (precursors .exit)) (now (energies .exit)) (now (coefficients .exit)) (now (mz .exit)) (now (intensity .exit))) ⌝ }
 {
     match event_end(run, at, h.version, h.primary, h.dependent) {
-        EventPlace::Refused(r) => ScanAnswer::Refused(r),
-        EventPlace::At(_) => {
+        CountAnswer::Refused(r) => ScanAnswer::Refused(r),
+        CountAnswer::Count(_) => {
             match find_data(
                 run,
                 format_of(h),
