@@ -1,16 +1,23 @@
-// Numbers of a run and floats: the crates `reader` and `floats`.
+// Numbers of a run, floats and ten-thousandths: the crates `binary_reader`, `floats` and `ten_thousandths`.
 use crate::answer;
 use crate::request;
 use crate::request::U32;
 use crate::request::U64;
+use binary_reader::BytesAnswer;
+use binary_reader::Width;
+use binary_reader::WordAnswer;
+use binary_reader::check_count_at;
+use binary_reader::read_f64_le;
+use binary_reader::read_u32_le;
+use binary_reader::word_behind;
 
-// The number of one, two, four or eight bytes at a place.
-fn word_at(run: &[u8], place: u64, size: u64) -> u64 {
+// The number of one, two, four or eight bytes at a place, through a reader or by the functions of bytes.rs.
+fn word_at(run: &[u8], place: u64, size: u64) -> WordAnswer {
     match size {
-        1 => reader::u8_at(run, place) as u64,
-        2 => reader::u16_at(run, place) as u64,
-        4 => reader::u32_at(run, place) as u64,
-        _ => reader::u64_at(run, place),
+        1 => binary_reader::word_at(run, place, Width::One),
+        2 => binary_reader::word_at(run, place, Width::Two),
+        4 => read_u32_le(run, place),
+        _ => read_f64_le(run, place),
     }
 }
 
@@ -32,10 +39,42 @@ pub(crate) fn word(line: &[u8], at: usize, data: &mut [u8], out: &mut [u8], n: u
         return answer::bad(out, n);
     }
     let run = request::front(data, count.value);
-    if reader::remaining(run, place.value) < size.value {
-        return answer::none(out, n);
+    match word_at(run, place.value, size.value) {
+        WordAnswer::Value(value) => answer::ok_number(out, n, value),
+        WordAnswer::Short => answer::none(out, n),
     }
-    answer::ok_number(out, n, word_at(run, place.value, size.value))
+}
+
+// A count, if the bytes left hold so many records of a size.
+fn put_counted(out: &mut [u8], n: usize, run: &[u8], place: u64, size: u64) -> usize {
+    let WordAnswer::Value(count) = read_u32_le(run, place) else {
+        return answer::put(out, n, b"refused 1");
+    };
+    let behind = word_behind(run, place, Width::Four);
+    match check_count_at(run, behind, count, size) {
+        BytesAnswer::Short => answer::put(out, n, b"refused 1"),
+        BytesAnswer::There => {
+            let n = answer::ok_number(out, n, count);
+            answer::number(out, n, behind)
+        }
+    }
+}
+
+pub(crate) fn counted_list(
+    line: &[u8],
+    at: usize,
+    data: &mut [u8],
+    out: &mut [u8],
+    n: usize,
+) -> usize {
+    let size = request::number(line, at, U64);
+    let place = request::number(line, size.end, U64);
+    let count = request::bytes(line, place.end, data);
+    if count.end != line.len() {
+        return answer::bad(out, n);
+    }
+    let run = request::front(data, count.value);
+    put_counted(out, n, run, place.value, size.value)
 }
 
 // A NaN has many patterns and one value, so only another number's bits go by way of its value.
