@@ -1,4 +1,4 @@
-use mathlib.Core.Path.{sym, _∙_}
+use mathlib.Core.Path.{sym}
 use Rattle.lists.proofs.Laws.{length-each}
 use Rattle.reaction.specs.Source.{inSource}
 use borrow.Author.Needs.{needs}
