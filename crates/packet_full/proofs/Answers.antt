@@ -1,40 +1,35 @@
 -- What reading a whole packet answers, by what its stages found.
--- Assumes nothing.
 use mathlib.Core.Path.{_≡_, refl, ap, sym, subst, _∙_}
 use Prim.Native.Nat.{ℕ, _+_}
 use mathlib.Core.List.{List}
-use lib.ListN.{length}
 use Rattle.refusal.specs.Outcome.{ok, refused}
 use Rattle.parser.specs.Parser.{parsed, parse}
 use Rattle.parser.specs.Walk.{sum}
 use Rattle.parser.specs.Call.{outcome}
-use Rattle.parser.proofs.Walk.{length-parsed}
 use Rattle.packet_header.specs.declared.PacketHeader.{PacketHeader}
-use Rattle.profile.specs.Profile.{points, chunk, profile, located}
+use Rattle.profile.specs.Profile.{points, profile, located}
 use Rattle.profile.proofs.Answers.{profile-chunks}
-use Rattle.scan_packet.specs.Packet.{Stored, absent, present, describeProfile}
-use Rattle.scan_packet.specs.declared.Lent.{Lent}
+use Rattle.scan_packet.specs.Packet.{Stored, absent, present, describeProfile, decoded, Lent}
+use Rattle.scan_packet.specs.Places.{decodedAt}
 use Rattle.scan_packet.specs.declared.PacketProfile.{PacketProfile}
 use Rattle.scan_packet.specs.declared.Places.{Places}
-use Rattle.scan_packet.proofs.Found.{decoded-is, room-is}
+use Rattle.scan_packet.proofs.Found.{decoded-is}
 use Rattle.packet_places.specs.Packet.{stored, packet}
-use Rattle.packet_places.specs.Places.{findPlaces}
-use Rattle.packet_places.proofs.Answers.{present-parsed, packet-short, Standing, standing}
-use Rattle.packet_full.specs.Full.{chunksOf, handOut, readPacket}
-use Rattle.packet_full.specs.Judged.{chunkList, chunksAt, ProfileThere, chunkCount, pointCount, handPlaces}
-use Rattle.packet_full.specs.declared.ChunkLent.{ChunkLent}
+use Rattle.packet_places.specs.Places.{fullPlaces, findPlaces}
+use Rattle.packet_places.proofs.Stages.{present-parsed}
+use Rattle.packet_places.proofs.Answers.{packet-short, Standing, standing}
+use Rattle.packet_full.specs.Full.{columns, chunksOf, ChunkLent, handOut, readPacket}
+use Rattle.packet_full.specs.Judged.{chunkList, chunksAt, ProfileThere}
 
 -- a stored profile's chunks, by its record
 record Chunked (v : PacketProfile) (p : Stored) (s : List ℕ) : Type 0 where
   there : ProfileThere v s
   list : chunksAt v s ≡ chunksOf p
-  count : chunkCount v ≡ length (chunksOf p)
-  values : pointCount v ≡ sum points (chunksOf p)
 
 chunked-as : (h : PacketHeader) (s : List ℕ) (at : ℕ) (p : Stored) (next : ℕ) → parse (stored h) s (at + 40) ≡ parsed p next
     → Chunked (describeProfile (h .layout) at p) p s
 unfolding chunkList located
-chunked-as h s at absent next e = record { there = tt; list = refl; count = refl; values = refl }
+chunked-as h s at absent next e = record { there = tt; list = refl }
 chunked-as h s at (present p) next e =
     let v = located (h .layout) (at + 40) p in
     let c = profile-chunks (h .layout) s (at + 40) (present-parsed h s (at + 40) p next e) in
@@ -42,8 +37,6 @@ chunked-as h s at (present p) next e =
     record {
       there = record { end = next; there = c ∙ ap (λ l. parsed l next) (sym list); values = ap (sum points) list };
       list = list;
-      count = sym (length-parsed (chunk (v .fudged)) (v .«peak_count») s (v .«chunks_at») c);
-      values = refl;
     }
 
 module _ (s : List ℕ) (at : ℕ) where
@@ -56,13 +49,14 @@ module _ (s : List ℕ) (at : ℕ) where
     unfolding readPacket outcome
     places-short e = let r = packet-short s at e in rw (r .one, r .part, r .there)
 
-    pub places-found : {v : Places} → ok v ≡ findPlaces at s → handPlaces lent chunkLent v s ≡ readPacket lent chunkLent at s
-    unfolding readPacket outcome handPlaces handOut
-    places-found e =
+    pub places-found : {v : Places} → ok v ≡ findPlaces at s → handOut lent chunkLent (decodedAt v s) (columns (chunksAt (v .profile) s)) ≡ readPacket lent chunkLent at s
+    unfolding readPacket outcome
+    places-found {v} e =
         let t = standing s at e in
         let w = t .stands in
-        let c = chunked t in
-        rw (w .there, w .profile-is, room-is w lent, decoded-is w, c .count, c .values, c .list)
+        let d = decoded (fullPlaces at (w .packet) (v .labels .next)) (w .packet .peaks) (w .packet .labels) in
+        ap (λ d. handOut lent chunkLent d (columns (chunksAt (v .profile) s))) (decoded-is w)
+        ∙ ap (λ cs. handOut lent chunkLent d (columns cs)) (chunked t .list ∙ ap chunksOf (sym (w .profile-is))) ∙ rw (w .there)
 
   pub profile-there : {v : Places} → ok v ≡ findPlaces at s → ProfileThere (v .profile) s
   profile-there e = chunked (standing s at e) .there

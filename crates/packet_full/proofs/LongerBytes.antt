@@ -1,33 +1,53 @@
 -- Demand 3 for a whole packet.
--- Assumes nothing.
-use Prim.Native.Nat.{ℕ, _-_}
+use mathlib.Core.Path.{_≡_}
+use Prim.Native.Nat.{ℕ, _^_, _<_}
 use mathlib.Core.Bool.{_&&_}
-use mathlib.Core.List.{[]}
-use lib.ListN.{length}
-use Rattle.refusal.specs.Outcome.{ok, refused}
-use Rattle.parser.specs.Walk.{sum}
+use Rattle.refusal.specs.Outcome.{Outcome, onOk}
 use Rattle.parser.specs.Call.{single}
-use Rattle.parser.specs.LongerBytes.{PrefixProperty, Completes}
-use Rattle.parser.proofs.Calls.{Settled, settled-cond, prefix-property, single-completes}
-use Rattle.profile.specs.Profile.{points, profile}
-use Rattle.scan_packet.specs.Packet.{Packet, decoded, room}
-use Rattle.scan_packet.specs.declared.Lent.{Lent}
+use Rattle.parser.specs.LongerBytes.{OnLongerBytes, PrefixProperty, Names, Completes}
+use Rattle.parser.proofs.Calls.{Settled, settled-room, prefix-property, only-part, single-completes}
+use Rattle.parser.proofs.OnLongerBytes.{one-part, left-longer}
+use Rattle.labels.proofs.LongerBytes.{longer-and}
+use Rattle.scan_packet.specs.Packet.{Packet, Decoded, decoded, nodesAt, Slices, Lent, lentOf, room, told}
+use Rattle.scan_packet.proofs.Told.{packet-told-one}
 use Rattle.packet_places.specs.Packet.{packet}
+use Rattle.packet_places.specs.Places.{fullPlaces}
 use Rattle.packet_places.proofs.LongerBytes.{packet-bounded}
-use Rattle.packet_full.specs.Full.{columns, chunksOf, chunkRoom, handOut, readPacket}
-use Rattle.packet_full.specs.declared.ChunkLent.{ChunkLent}
+use Rattle.packet_full.specs.Full.{Columns, columns, chunksOf, ChunkLent, chunkLentOf, chunkRoom, handOut, readPacket, allWritten, Answers}
 
-hand-out-settled : (lent : Lent) (chunkLent : ChunkLent) (at : ℕ) (p : Packet) (next : ℕ) → Settled (handOut lent chunkLent at p next)
-unfolding handOut
-hand-out-settled lent chunkLent at p next =
-    let cs = chunksOf (p .profile) in
-    settled-cond (chunkRoom chunkLent (length cs) (sum points cs) && room lent p) (ok (decoded at p next, columns cs)) (refused 8 []) tt tt
+module _ (at : ℕ) where
+  module _ (lent : Lent) (chunkLent : ChunkLent) where
+    given : Packet → ℕ → Outcome (Decoded × Columns)
+    given p next = handOut lent chunkLent (decoded (fullPlaces at p next) (p .peaks) (p .labels)) (columns (chunksOf (p .profile)))
 
-pub packet-prefix : (lent : Lent) (chunkLent : ChunkLent) (at : ℕ) → PrefixProperty (readPacket lent chunkLent at)
-unfolding readPacket
-packet-prefix lent chunkLent at = prefix-property (single 4 at packet (handOut lent chunkLent at))
+    given-settled : (p : Packet) (next : ℕ) → Settled (given p next)
+    unfolding given handOut
+    given-settled p next =
+        let d = decoded (fullPlaces at p next) (p .peaks) (p .labels) in
+        let c = columns (chunksOf (p .profile)) in
+        settled-room (room lent d && chunkRoom chunkLent c) (d, c)
 
-pub packet-completes : (lent : Lent) (chunkLent : ChunkLent) (at : ℕ) → Completes 4 at (readPacket lent chunkLent at)
-unfolding readPacket
-packet-completes lent chunkLent at =
-    single-completes 4 at packet (handOut lent chunkLent at) packet-bounded (hand-out-settled lent chunkLent at)
+    pub packet-prefix : PrefixProperty (readPacket lent chunkLent at)
+    unfolding readPacket given
+    packet-prefix = prefix-property (single 4 at packet given)
+
+    pub packet-names : Names (λ q. q ≡ 4) (readPacket lent chunkLent at)
+    unfolding readPacket given
+    packet-names = only-part 4 at packet given given-settled
+
+    pub packet-completes : Completes 4 at (readPacket lent chunkLent at)
+    unfolding readPacket given
+    packet-completes = single-completes 4 at packet given packet-bounded given-settled
+
+  pub packet-longer : (xs : Slices × Columns)
+      → OnLongerBytes told
+      (λ s r ys. Answers (λ lent chunkLent. readPacket lent chunkLent at s) xs r ys × (onOk (nodesAt s) (told r) ≡ onOk (λ p. p .0 .nodes) (readPacket (lentOf (xs .0)) (chunkLentOf (xs .1)) at s)))
+      (λ q. q ≡ 4) (λ _ _. at < 2 ^ 62)
+  packet-longer xs =
+      let lent = lentOf (xs .0) in
+      let chunkLent = chunkLentOf (xs .1) in
+      let call = readPacket lent chunkLent at in
+      let names = packet-names lent chunkLent in
+      longer-and (λ s r. onOk (nodesAt s) (told r) ≡ onOk (λ p. p .0 .nodes) (readPacket (lentOf (xs .0)) (chunkLentOf (xs .1)) at s))
+      (left-longer told packet-told-one call (packet-prefix lent chunkLent) (λ q. q ≡ 4) (λ _ _. at < 2 ^ 62) names
+      (one-part 4 at call names (packet-completes lent chunkLent)) (λ (p : Decoded × Columns). p .0 .packet) allWritten xs)

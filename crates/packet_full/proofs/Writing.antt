@@ -1,5 +1,4 @@
 -- The loop over chunks: what is written so far, and the turn that writes one chunk more.
--- Assumes nothing.
 use mathlib.Core.Path.{_≡_, refl, ap, sym, subst, _∙_}
 use Prim.Native.Nat.{ℕ, suc, _+_, _*_, _-_, _≤_, _<_}
 use native.Mathlib.Nat.{sub-zero}
@@ -14,7 +13,7 @@ use Rattle.parser.specs.Walk.{sum}
 use Rattle.parser.proofs.Walk.{FirstOf, first-of}
 use Rattle.profile.specs.Profile.{headSize, Chunk, points, chunk, fudgeAt}
 use Rattle.profile.proofs.Chunks.{Whole, whole-chunk}
-use Rattle.packet_full.specs.Full.{columns, signals}
+use Rattle.packet_full.specs.Full.{fourOf, columns, signals, columnsOver}
 
 -- a column of the chunks that are done, over the front of its slice
 pub record Column (f : Chunk → ℕ) (done : List Chunk) (xs X : List ℕ) : Type 0 where
@@ -177,6 +176,5 @@ signals-size [] = refl
 signals-size (k ∷ cs) = omega (arith, length-append (k .signal) (signals cs), signals-size cs)
 
 pub written-all : {count : ℕ} {fudged : Bool} {s : List ℕ} {all : List Chunk} {b c f v B C F W : List ℕ} {at written i : ℕ}
-    → Writing count fudged s all b c f v B C F W at written i → i ≡ count
-    → (B ≡ over (columns all .firstBins) b) × ((C ≡ over (columns all .counts) c) × ((F ≡ over (columns all .fudges) f) × (W ≡ over (columns all .signal) v)))
-written-all w e = rw (all-done w e) (w .bins .is, (w .counts .is, (w .fudges .is, w .signal)))
+    → Writing count fudged s all b c f v B C F W at written i → i ≡ count → fourOf B C F W ≡ columnsOver (columns all) (fourOf b c f v)
+written-all w e = rw (all-done w e, ← w .bins .is, ← w .counts .is, ← w .fudges .is, ← w .signal)

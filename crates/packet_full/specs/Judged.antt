@@ -1,21 +1,15 @@
 -- A profile whose chunks are there. No public promise cites it.
 use mathlib.Core.Path.{_≡_}
 use Prim.Native.Nat.{ℕ, _≤_}
-use mathlib.Core.Bool.{Bool, _&&_, cond}
 use mathlib.Core.List.{List, []}
-use Rattle.refusal.specs.Outcome.{Outcome, ok, refused}
+use lib.ListN.{length}
 use Rattle.parser.specs.Parser.{Parsed, short, parsed, parse, repeat}
 use Rattle.parser.specs.Walk.{sum}
 use Rattle.profile.specs.Profile.{Chunk, points, chunk}
 use Rattle.profile.specs.declared.Profile.{Profile}
-use Rattle.scan_packet.specs.Packet.{Decoded, hasRoom}
-use Rattle.scan_packet.specs.Places.{decodedAt}
-use Rattle.scan_packet.specs.declared.Lent.{Lent}
 use Rattle.scan_packet.specs.declared.PacketProfile.{PacketProfile}
 use Rattle.scan_packet.specs.declared.PacketProfile.the-variants.{Absent, Present}
-use Rattle.scan_packet.specs.declared.Places.{Places}
-use Rattle.packet_full.specs.Full.{Columns, columns, chunkRoom}
-use Rattle.packet_full.specs.declared.ChunkLent.{ChunkLent}
+use Rattle.packet_full.specs.Full.{Columns}
 
 -- the chunks of a profile, as they are parsed
 abbrev pub listOf : Parsed (List Chunk) → List Chunk
@@ -40,16 +34,16 @@ ProfileThere Absent s = Unit {0}
 ProfileThere (Present p) s = Parsing p s
 
 -- and the slices hold them
-pub record ChunksThere (p : Profile) (s : List ℕ) (b c f v : ℕ) : Type 0 where
+pub record ChunksThere (p : Profile) (s : List ℕ) (xs : Columns) : Type 0 where
   pub parsing : Parsing p s
-  pub in-bins : p .«peak_count» ≤ b
-  pub in-counts : p .«peak_count» ≤ c
-  pub in-fudges : p .«peak_count» ≤ f
-  pub in-signal : p .points ≤ v
+  pub in-bins : p .«peak_count» ≤ length (xs .bins)
+  pub in-counts : p .«peak_count» ≤ length (xs .counts)
+  pub in-fudges : p .«peak_count» ≤ length (xs .fudges)
+  pub in-signal : p .points ≤ length (xs .signal)
 
-abbrev pub HasChunks : PacketProfile → List ℕ → ℕ → ℕ → ℕ → ℕ → Type 0
-HasChunks Absent s b c f v = Unit {0}
-HasChunks (Present p) s b c f v = ChunksThere p s b c f v
+abbrev pub HasChunks : PacketProfile → List ℕ → Columns → Type 0
+HasChunks Absent s xs = Unit {0}
+HasChunks (Present p) s xs = ChunksThere p s xs
 
 abbrev pub chunkCount : PacketProfile → ℕ
 chunkCount Absent = 0
@@ -58,10 +52,3 @@ chunkCount (Present p) = p .«peak_count»
 abbrev pub pointCount : PacketProfile → ℕ
 pointCount Absent = 0
 pointCount (Present p) = p .points
-
-abbrev pub placesRoom : Lent → ChunkLent → Places → Bool
-placesRoom lent chunkLent v =
-    chunkRoom chunkLent (chunkCount (v .profile)) (pointCount (v .profile)) && hasRoom lent (v .list .count) (v .labels .descriptors) (v .labels .resolutions)
-
-unfoldable pub handPlaces : Lent → ChunkLent → Places → List ℕ → Outcome (Decoded × Columns)
-handPlaces lent chunkLent v s = cond (placesRoom lent chunkLent v) (ok (decodedAt v s, columns (chunksAt (v .profile) s))) (refused 8 [])

@@ -1,78 +1,66 @@
--- `packet_full::hand_out` meets its contract: one test of the lent slices, and then each list is written.
--- Assumes nothing.
-use mathlib.Core.Path.{sym, _∙_}
+-- The room for the chunks is tested first; then the lists are handed out, or refused; and then the chunks are written.
+use mathlib.Core.Path.{_≡_, sym, ap, _∙_}
+use mathlib.Core.Bool.{true}
 use denote.Ref.{now}
-use Rattle.packet_full.proofs.Results.{no-room, has-chunks, packet-result}
+use Rattle.packet_full.specs.Full.{fourOf, columns, chunkLentOf, chunkRoom}
+use Rattle.packet_full.specs.Judged.{chunksAt}
+use Rattle.packet_full.proofs.HandOut.{tested, has-chunks, no-chunk-room, lists-refused, all-written}
 use borrow.Author.Needs.{needs}
 use Rattle.packet_full.proofs.hand_out.Statement.{statement}
 use Rattle.packet_full.proofs.hand_out.Tie as tie
 
-all-fit-requires : tie.Need-all-fit-requires
-all-fit-requires c κs = search needs
-
-write-lists-requires : tie.Need-write-lists-requires
-write-lists-requires c κs = search needs
+-- what the tests say
+test : (c : tie.After-holds4) → let a = c .before .before .before .before .before .before .before .before .before .before .before .before .before .before .args in
+    c .holds4 .result ≡ chunkRoom (chunkLentOf (fourOf (now (a .bins)) (now (a .counts)) (now (a .fudges)) (now (a .signal)))) (columns (chunksAt (a .places .profile) (now (a .run))))
+test c =
+    let k = c .before .before .before .before in
+    let a = k .before .before .before .before .before .before .before .before .before .before .args in
+    tested (a .places .profile) (now (a .run)) (now (a .bins)) (now (a .counts)) (now (a .fudges)) (now (a .signal)) (k .before .before .before .before .before .before .before .before .before .before .pre) (k .chunk-counts .ensures .0) (k .chunk-counts .ensures .1)
+    (c .before .before .before .holds .ensures) (c .before .before .holds2 .ensures) (c .before .holds3 .ensures) (c .holds4 .ensures)
 
 write-columns-requires : tie.Need-write-columns-requires
 write-columns-requires c κs =
-    let a = c .before .before .before .before .before .before .before .before .before .before .before .before .before .before .before .before .before .before .before .before .before .before .before .before .before .before .before .before .args in
-    has-chunks (a .places) (now (a .run)) (now (a .mz)) (now (a .abundance)) (now (a .descriptors)) (now (a .resolutions)) (now (a .bins)) (now (a .counts)) (now (a .fudges)) (now (a .signal)) (sym (c .before .before .before .before .before .before .before .before .before .before .before .before .before .before .before .before .before .before .all-fit .ensures) ∙ c .before .before .before .before .before .before .before .before .before .before .before .before .before .before .before .before .before .if1 .taken) (c .before .before .before .before .before .before .before .before .before .before .before .before .before .before .before .before .before .before .before .before .before .before .before .before .before .before .before .before .pre)
-
-describe-requires : tie.Need-describe-requires
-describe-requires c κs = search needs
-
-same-length : tie.Need-same-length
-same-length c = search needs
-
-same-length-2 : tie.Need-same-length-2
-same-length-2 c = search needs
-
-same-length-3 : tie.Need-same-length-3
-same-length-3 c = search needs
-
-same-length-4 : tie.Need-same-length-4
-same-length-4 c = search needs
-
-same-length-5 : tie.Need-same-length-5
-same-length-5 c = search needs
-
-same-length-6 : tie.Need-same-length-6
-same-length-6 c = search needs
-
-same-length-7 : tie.Need-same-length-7
-same-length-7 c = search needs
-
-same-length-8 : tie.Need-same-length-8
-same-length-8 c = search needs
+    let t = c .before .before .before .before .before .before .before .before .before .before .before .before .before .before .before .before .before .before .before .before in
+    let start = t .before .before .before .before .before .before .before .before .before .before .before .before .before .before .before in
+    has-chunks (start .args .places .profile) _ _ (start .pre) (sym (test (t .before)) ∙ t .if1 .taken)
 
 returns : tie.Need-returns
-returns c =
-    let a = c .before .before .before .before .before .before .before .before .before .before .before .before .before .before .before .before .before .before .before .before .before .before .before .before .before .before .before .before .before .before .before .before .before .before .before .before .before .before .args in
-    let w = c .before .before .before .before .before .before .before .before .before .before .before .before .before .before .before .before .before .before .before .before .before .before .write-lists .ensures in
-    let k = c .before .before .before .before .before .before .before .before .before .write-columns .ensures in
-    packet-result (a .places) (now (a .run)) (now (a .mz)) (now (a .abundance)) (now (a .descriptors)) (now (a .resolutions)) (now (a .bins)) (now (a .counts)) (now (a .fudges)) (now (a .signal)) (sym (c .before .before .before .before .before .before .before .before .before .before .before .before .before .before .before .before .before .before .before .before .before .before .before .before .before .before .before .before .all-fit .ensures) ∙ c .before .before .before .before .before .before .before .before .before .before .before .before .before .before .before .before .before .before .before .before .before .before .before .before .before .before .before .if1 .taken) (c .describe .ensures)
-    (w .0) (w .1 .0) (w .1 .1 .0) (w .1 .1 .1) (k .0) (k .1 .0) (k .1 .1 .0) (k .1 .1 .1)
+returns c = lists-refused _ _ _ _ (rw (c .before .r .given .1) at (c .before .before .before .before .before .before .before .before .before .before .before .hand-out .ensures))
 
 returns-2 : tie.Need-returns-2
 returns-2 c =
-    let a = c .before .before .before .before .before .before .before .before .before .before .before .args in
-    no-room (a .places) (now (a .run)) (now (a .mz)) (now (a .abundance)) (now (a .descriptors)) (now (a .resolutions)) (now (a .bins)) (now (a .counts)) (now (a .fudges)) (now (a .signal)) (sym (c .before .all-fit .ensures) ∙ c .if1 .left)
+    let p = c .before .before .before .before .before .before .before .before .before .before .before .before .before .before in
+    let t = p .before .before .before .before .before .before .before .before .before .before .before .before .before .before .before in
+    all-written _ _ _ _ (sym (test (t .before)) ∙ t .if1 .taken) (rw (p .packet .given .1) at (p .before .before .before .before .before .before .before .before .before .before .hand-out .ensures)) (c .before .before .before .before .before .before .before .before .write-columns .ensures)
+
+returns-3 : tie.Need-returns-3
+returns-3 c = no-chunk-room _ _ _ _ (sym (test (c .before)) ∙ c .if1 .left)
 
 pub hand-out-spec : {M : Type 1} → statement M
 hand-out-spec =
     tie.close
     (tie.spec
-    all-fit-requires
-    write-lists-requires
+    (search needs)
+    (search needs)
+    (search needs)
+    (search needs)
+    (search needs)
+    (search needs)
+    (search needs)
+    (search needs)
     write-columns-requires
-    describe-requires
-    same-length
-    same-length-2
-    same-length-3
-    same-length-4
-    same-length-5
-    same-length-6
-    same-length-7
-    same-length-8
+    (search needs)
+    (search needs)
+    (search needs)
+    (search needs)
     returns
-    returns-2)
+    (search needs)
+    (search needs)
+    (search needs)
+    (search needs)
+    (search needs)
+    (search needs)
+    (search needs)
+    (search needs)
+    returns-2
+    returns-3)

@@ -1,5 +1,4 @@
--- `packet_full::write_chunks` meets its contract: the invariant is `Writing`, and a turn writes one chunk.
--- Assumes nothing.
+-- The invariant is `Writing`, and a turn writes one chunk.
 use mathlib.Core.Path.{_≡_, refl}
 use Prim.Native.Nat.{_-_}
 use native.Mathlib.Omega.{arith}
@@ -18,12 +17,6 @@ Inv-loop run bins₀ counts₀ fudges₀ signal₀ count fudged head at₀ writt
 abbrev μ-loop : tie.MeasureT-loop
 μ-loop run bins₀ counts₀ fudges₀ signal₀ count fudged head at₀ written₀ i₀ bins counts fudges signal at written i = count - i
 
-cast-count : tie.Need-cast-count Inv-loop μ-loop
-cast-count c = search needs
-
-head-size-requires : tie.Need-head-size-requires Inv-loop μ-loop
-head-size-requires c κs = search needs
-
 loop-holds : tie.Need-loop-holds Inv-loop μ-loop
 unfolding chunkList
 loop-holds c =
@@ -34,38 +27,17 @@ loop-holds c =
 add-u32-at : tie.Need-add-u32-at Inv-loop μ-loop
 add-u32-at c = omega (arith, head-there (c .before .loop .inv) (c .loop-test .taken) _ refl, c .before .before .head-size .ensures)
 
-u32-at-requires : tie.Need-u32-at-requires Inv-loop μ-loop
-u32-at-requires c κs = search needs
-
-u32-at-requires-2 : tie.Need-u32-at-requires-2 Inv-loop μ-loop
-u32-at-requires-2 c κs = search needs
-
-mul-bins : tie.Need-mul-bins Inv-loop μ-loop
-mul-bins c = search needs
-
 slice-write-bins : tie.Need-slice-write-bins Inv-loop μ-loop
 slice-write-bins c = omega (arith, c .before .before .before .loop .inv .bins .same, c .before .before .before .loop .inv .in-bins, c .before .before .loop-test .taken)
 
-mul-counts : tie.Need-mul-counts Inv-loop μ-loop
-mul-counts c = search needs
-
 slice-write-counts : tie.Need-slice-write-counts Inv-loop μ-loop
 slice-write-counts c = omega (arith, c .before .before .before .loop .inv .counts .same, c .before .before .before .loop .inv .in-counts, c .before .before .loop-test .taken)
-
-fudge-at-requires : tie.Need-fudge-at-requires Inv-loop μ-loop
-fudge-at-requires c κs = search needs
-
-mul-fudges : tie.Need-mul-fudges Inv-loop μ-loop
-mul-fudges c = search needs
 
 slice-write-fudges : tie.Need-slice-write-fudges Inv-loop μ-loop
 slice-write-fudges c = omega (arith, c .before .before .before .before .loop .inv .fudges .same, c .before .before .before .before .loop .inv .in-fudges, c .before .before .before .loop-test .taken)
 
 add-copy-u32s : tie.Need-add-copy-u32s Inv-loop μ-loop
 add-copy-u32s c = omega (arith, head-there (c .before .before .before .before .loop .inv) (c .before .before .before .loop-test .taken) _ refl, c .before .before .before .before .before .head-size .ensures)
-
-cast-copy-u32s : tie.Need-cast-copy-u32s Inv-loop μ-loop
-cast-copy-u32s c = search needs
 
 mul-copy-u32s : tie.Need-mul-copy-u32s Inv-loop μ-loop
 mul-copy-u32s c =
@@ -82,15 +54,6 @@ part-copy-u32s-start c =
     let w = c .before .before .before .before .loop .inv in
     omega (arith, fits w (c .before .before .before .loop-test .taken) (c .before .before .u32-at .result) (c .before .before .u32-at .ensures), w .same)
 
-part-copy-u32s-end : tie.Need-part-copy-u32s-end Inv-loop μ-loop
-part-copy-u32s-end c = search needs
-
-copy-u32s-requires : tie.Need-copy-u32s-requires Inv-loop μ-loop
-copy-u32s-requires c κs = search needs
-
-cast-written : tie.Need-cast-written Inv-loop μ-loop
-cast-written c = search needs
-
 add-written : tie.Need-add-written Inv-loop μ-loop
 add-written c =
     let w = c .before .before .before .before .before .before .before .before .loop .inv in
@@ -101,26 +64,14 @@ add-at c =
     let w = c .before .before .before .before .before .before .before .before .loop .inv in
     omega (arith, head-there w (c .before .before .before .before .before .before .before .loop-test .taken) (c .before .before .before .before .before .before .u32-at .result) (c .before .before .before .before .before .before .u32-at .ensures), c .before .before .before .before .before .before .before .before .before .head-size .ensures)
 
-cast-at : tie.Need-cast-at Inv-loop μ-loop
-cast-at c = search needs
-
-mul-at : tie.Need-mul-at Inv-loop μ-loop
-mul-at c = search needs
-
 add-at-2 : tie.Need-add-at-2 Inv-loop μ-loop
 add-at-2 c =
     let w = c .before .before .before .before .before .before .before .before .loop .inv in
     omega (arith, head-there w (c .before .before .before .before .before .before .before .loop-test .taken) (c .before .before .before .before .before .before .u32-at .result) (c .before .before .before .before .before .before .u32-at .ensures), values-there w (c .before .before .before .before .before .before .before .loop-test .taken) (c .before .before .before .before .before .before .u32-at .result) (c .before .before .before .before .before .before .u32-at .ensures), c .before .before .before .before .before .before .before .before .before .head-size .ensures .0)
 
-add-i : tie.Need-add-i Inv-loop μ-loop
-add-i c = search needs
-
-loop-less : tie.Need-loop-less Inv-loop μ-loop
-loop-less c = search needs
-
 loop-again : tie.Need-loop-again Inv-loop μ-loop
 loop-again c =
-    turn-by (c .before .before .before .before .before .before .before .before .loop .inv) (c .before .before .before .before .before .before .before .loop-test .taken) (c .before .before .before .before .before .before .u32-at .result) (c .before .before .before .before .before .before .u32-at .ensures) (c .before .before .before .before .before .u32-at2 .ensures) refl (c .before .before .before .before .fudge-at .ensures) (c .before .before .before .before .before .before .before .before .before .head-size .ensures .0) _ (c .before .before .copy-u32s .ensures) refl
+    turn-by (c .before .before .before .before .before .before .before .before .loop .inv) (c .before .before .before .before .before .before .before .loop-test .taken) (c .before .before .before .before .before .before .u32-at .result) (c .before .before .before .before .before .before .u32-at .ensures) (c .before .before .before .before .before .u32-at2 .ensures) refl (c .before .before .before .before .fudge-at .ensures) (c .before .before .before .before .before .before .before .before .before .head-size .ensures .0) _ (c .before .before .copy-u32s .ensures .stands) refl
 
 same-length : tie.Need-same-length Inv-loop μ-loop
 same-length c = c .before .loop .inv .bins .same
@@ -146,34 +97,34 @@ write-chunks-spec =
     (tie.spec
     Inv-loop
     μ-loop
-    cast-count
-    head-size-requires
+    (search needs)
+    (search needs)
     loop-holds
     add-u32-at
-    u32-at-requires
-    u32-at-requires-2
-    mul-bins
+    (search needs)
+    (search needs)
+    (search needs)
     slice-write-bins
-    mul-counts
+    (search needs)
     slice-write-counts
-    fudge-at-requires
-    mul-fudges
+    (search needs)
+    (search needs)
     slice-write-fudges
     add-copy-u32s
-    cast-copy-u32s
+    (search needs)
     mul-copy-u32s
     sub-copy-u32s
     part-copy-u32s-start
-    part-copy-u32s-end
-    copy-u32s-requires
-    cast-written
+    (search needs)
+    (search needs)
+    (search needs)
     add-written
     add-at
-    cast-at
-    mul-at
+    (search needs)
+    (search needs)
     add-at-2
-    add-i
-    loop-less
+    (search needs)
+    (search needs)
     loop-again
     same-length
     same-length-2
