@@ -18,7 +18,8 @@ use Rattle.parser.proofs.Prefix.{within-parsed}
 use Rattle.parser.proofs.Fixed.{parse-sized, sized-bind, value-bind}
 use Rattle.parser.proofs.Answered.{found, RanOut, ran-out}
 use Rattle.packet_header.specs.declared.PacketHeader.{PacketHeader}
-use Rattle.labels.specs.Labels.{keptCount, descriptors, resolutions, triplets, Streams, labels, located, readLabels, streamsAt, readStreams}
+use Rattle.labels.specs.Labels.{descriptors, resolutions, triplets, Streams, labels, located, readLabels, streamsAt, readStreams}
+use Rattle.labels.specs.Kept.{keptCount}
 use Rattle.labels.specs.declared.Labels.{Labels}
 use Rattle.labels.proofs.Streams.{descriptors-sized, resolutions-sized, triplets-sized, descriptors-value, resolutions-value, triplets-value}
 

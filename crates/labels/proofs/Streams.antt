@@ -11,10 +11,11 @@ use borrow.Author.Tests.{le-leb, lt-leb, eq-eqb, ne-eqb, eqb-true}
 use Rattle.lists.specs.Written.{each}
 use Rattle.lists.proofs.Cases.{bool-cases, and-true}
 use Rattle.lists.proofs.Laws.{each-none, each-same}
-use Rattle.parser.specs.Parser.{Parser, done, read, bytes, le, raw, word, skip, _>>=_, _>>_}
+use Rattle.parser.specs.Parser.{Parser, done, bytes, le, word, skip, _>>=_, _>>_}
 use Rattle.parser.specs.Fixed.{Sized, value}
-use Rattle.parser.proofs.Fixed.{sized-raw, sized-word, sized-bind, sized-ahead, sized-cond, sized-counted, value-each}
-use Rattle.labels.specs.Labels.{words, passed, isKept, keptCount, descriptors, resolutions, triplets}
+use Rattle.parser.proofs.Fixed.{sized-raw, sized-word, sized-bind, sized-cond, sized-counted, value-each}
+use Rattle.labels.specs.Labels.{words, passed, isKept, descriptors, resolutions, triplets}
+use Rattle.labels.specs.Kept.{keptCount}
 
 words-sized : (n : ℕ) → Sized (n * 4) (words n)
 unfolding words

@@ -29,9 +29,6 @@ passed size = do
 abbrev pub isKept : ℕ → ℕ → ℕ → Bool
 isKept n size more = leb 1 n && eqb size (n + more)
 
-abbrev pub keptCount : ℕ → ℕ → ℕ → ℕ
-keptCount n size more = cond (isKept n size more) n 0
-
 -- one word for each of n peaks
 unfoldable pub descriptors : ℕ → ℕ → Parser (List ℕ)
 descriptors n size = cond (isKept n size 0) (words n) (passed size)

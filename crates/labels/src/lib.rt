@@ -1,7 +1,8 @@
 // The label streams behind a packet's peak list (`read_labels` of scan_data.rs): descriptors, resolutions and noise nodes.
 ghost use mathlib.Core.Path.{_≡_};
 ghost use Rattle.refusal.specs.Outcome.{onOk};
-ghost use Rattle.labels.specs.Labels.{keptCount, readLabels, streamsAt, readStreams, told};
+ghost use Rattle.labels.specs.Labels.{readLabels, streamsAt, readStreams, told};
+ghost use Rattle.labels.specs.Kept.{keptCount};
 use packet_header::PacketHeader;
 use reader::remaining;
 use refusal::Part;

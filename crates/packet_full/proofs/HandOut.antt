@@ -3,11 +3,11 @@ use mathlib.Core.Path.{_≡_, refl, ap, sym, _∙_}
 use Prim.Native.Nat.{ℕ}
 use native.Mathlib.Omega.{arith}
 use mathlib.Core.Bool.{Bool, true, false, _&&_}
-use mathlib.Core.List.{List, [], _∷_, map}
+use mathlib.Core.List.{List, [], _∷_}
 use lib.Dec.{leb}
 use lib.ListN.{length, length-map}
 use Rattle.refusal.specs.Outcome.{Outcome, ok, refused, onOk}
-use Rattle.lists.specs.Left.{Left, fits, ifRoom}
+use Rattle.lists.specs.Left.{Left, ifRoom}
 use Rattle.lists.proofs.Left.{left-refused, left-written, left-same, wrote, stayed, fits-true}
 use Rattle.parser.specs.Walk.{sum}
 use Rattle.parser.proofs.Walk.{length-parsed}
@@ -19,7 +19,7 @@ use Rattle.scan_packet.specs.declared.PacketProfile.{PacketProfile}
 use Rattle.scan_packet.specs.declared.PacketProfile.the-variants.{Absent, Present}
 use Rattle.scan_packet.specs.declared.Places.{Places}
 use Rattle.scan_packet.specs.declared.ScanDataPacket.{ScanDataPacket}
-use Rattle.packet_full.specs.Full.{Columns, fourOf, signals, columns, ChunkLent, chunkLentOf, chunkRoom, handOut, columnsOver, allWritten}
+use Rattle.packet_full.specs.Full.{Columns, fourOf, columns, ChunkLent, chunkLentOf, chunkRoom, handOut, columnsOver, allWritten}
 use Rattle.packet_full.specs.Judged.{chunksAt, ProfileThere, HasChunks, chunkCount, pointCount}
 use Rattle.packet_full.proofs.Writing.{signals-size}
 

@@ -152,7 +152,7 @@ pub fn read_packet(
         r (slices (now (mz .exit)) (now (abundance .exit)) (now (descriptors .exit)) (now (resolutions .exit)), fourOf (now (bins .exit)) (now (counts .exit)) (now (fudges .exit)) (now (signal .exit))) ⌝ }
     ensures { λ r. ⌜ onOk (nodesAt (now (run .entry))) (told r)
         ≡ onOk (λ p. p .0 .nodes) (readPacket (lentOf (slices (now (mz .entry)) (now (abundance .entry)) (now (descriptors .entry)) (now (resolutions .entry))))
-            (chunkLentOf (fourOf (now (bins .entry)) (now (counts .entry)) (now (fudges .entry)) (now (signal .entry)))) at (now (run .entry))) ⌝ }
+        (chunkLentOf (fourOf (now (bins .entry)) (now (counts .entry)) (now (fudges .entry)) (now (signal .entry)))) at (now (run .entry))) ⌝ }
 {
     match find_places(run, at) {
         PlacesAnswer::Refused(r) => PacketAnswer::Refused(r),

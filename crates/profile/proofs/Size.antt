@@ -1,6 +1,6 @@
 -- The place behind a profile that was parsed, by its size.
 use mathlib.Core.Path.{_≡_, refl, ap, _∙_}
-use Prim.Native.Nat.{ℕ, zero, suc, _+_, _*_}
+use Prim.Native.Nat.{ℕ, zero, suc, _+_}
 use native.Mathlib.Omega.{arith}
 use mathlib.Core.Bool.{Bool}
 use mathlib.Core.List.{List, []}
@@ -8,7 +8,7 @@ use Rattle.lists.proofs.Laws.{length-each}
 use Rattle.parser.specs.Parser.{parsed, bytes, le, parse, repeat}
 use Rattle.parser.specs.Walk.{sum}
 use Rattle.parser.proofs.Walk.{first-of}
-use Rattle.profile.specs.Profile.{isFudged, headSize, Chunk, points, chunk, Axis, profile, chunkSize, profileSize, located}
+use Rattle.profile.specs.Profile.{isFudged, Chunk, points, chunk, Axis, profile, chunkSize, profileSize, located}
 use Rattle.profile.proofs.Chunks.{whole-chunk}
 use Rattle.profile.proofs.Answers.{profile-chunks}
 

@@ -1,5 +1,5 @@
 -- What is handed out of a packet by the places of its parts.
-use mathlib.Core.Path.{_≡_, refl, ap, _∙_}
+use mathlib.Core.Path.{_≡_, refl, ap, sym, _∙_}
 use Prim.Native.Nat.{ℕ, _+_, _*_, _-_, _^_, _≤_, _<_, min}
 use mathlib.Core.Bool.{Bool, true, false, _&&_}
 use mathlib.Core.List.{List, [], _∷_}
@@ -8,8 +8,9 @@ use lib.ListN.{length, length-map}
 use borrow.Author.Tests.{le-leb}
 use native.Mathlib.Omega.{arith}
 use Rattle.refusal.specs.Outcome.{Outcome, refused, onOk}
+use Rattle.refusal.proofs.Outcomes.{Made, made-of}
 use Rattle.lists.specs.Written.{each, over, fitting}
-use Rattle.lists.specs.Left.{after, Left, fits, ifRoom, firsts, seconds, columns, handOutPairs}
+use Rattle.lists.specs.Left.{after, Left, ifRoom, firsts, seconds, columns, handOutPairs}
 use Rattle.lists.proofs.Laws.{length-each, each-same, fitting-all}
 use Rattle.lists.proofs.Left.{left-refused, left-same, fits-true}
 use Rattle.parser.specs.Parser.{bytes, le}
@@ -17,10 +18,12 @@ use Rattle.reader.proofs.Words.{le-shifted}
 use Rattle.peaks.specs.Peaks.{peaksAt}
 use Rattle.peaks.proofs.Columns.{length-peaks}
 use Rattle.peak_list.specs.PeakList.{itemSize}
-use Rattle.scan_packet.specs.Packet.{describe, Decoded, nodesAt, Slices, slices, Lent, lentOf, room, handOut, written, Answers}
+use Rattle.scan_packet.specs.Packet.{describe, Decoded, nodesAt, Slices, slices, Lent, lentOf, room, handOut, told, written}
 use Rattle.scan_packet.specs.Places.{peaksOf, streamsOf, decodedAt}
 use Rattle.scan_packet.specs.declared.Places.{Places}
 use Rattle.scan_packet.specs.declared.ScanDataPacket.{ScanDataPacket}
+use Rattle.scan_packet.specs.declared.PacketAnswer.{PacketAnswer}
+use Rattle.scan_packet.specs.declared.PacketAnswer.the-variants.{Packet}
 
 -- pairs in slices that hold them
 pairs-whole : {A B : Type 0} (ps : List (A × B)) {xs xs′ : List A} {ys ys′ : List B} {t : Outcome ℕ} → length ps ≤ length xs → length ps ≤ length ys
@@ -81,3 +84,8 @@ module _ (v : Places) (s : List ℕ) where
 pub not-handed : (s : List ℕ) {o : Outcome Decoded} {xs : Slices} {number : ℕ} {carries : List ℕ} → refused number carries ≡ o
     → Left (λ (d : Decoded). d .packet) written o xs (refused number carries) xs × (onOk (nodesAt s) (refused number carries) ≡ onOk (λ (d : Decoded). d .nodes) o)
 not-handed s h = (left-refused h, rw (← h))
+
+-- for whoever goes on with a packet that a reader answered: the bytes at its nodes' place are the nodes of what was read
+pub nodes-read : {A : Type 0} (nodes : A → List ℕ) (o : Outcome A) (s : List ℕ) {r : PacketAnswer} {p : ScanDataPacket} → r ≡ Packet p
+    → onOk (nodesAt s) (told r) ≡ onOk nodes o → Made nodes o (bytes s (p .«nodes_at») (p .«noise_nodes» * 12))
+nodes-read nodes o s {r} {p} e h = made-of nodes o (sym (ap (λ (q : PacketAnswer). onOk (nodesAt s) (told q)) e) ∙ h)

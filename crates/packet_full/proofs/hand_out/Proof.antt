@@ -1,6 +1,5 @@
 -- The room for the chunks is tested first; then the lists are handed out, or refused; and then the chunks are written.
-use mathlib.Core.Path.{_≡_, sym, ap, _∙_}
-use mathlib.Core.Bool.{true}
+use mathlib.Core.Path.{_≡_, sym, _∙_}
 use denote.Ref.{now}
 use Rattle.packet_full.specs.Full.{fourOf, columns, chunkLentOf, chunkRoom}
 use Rattle.packet_full.specs.Judged.{chunksAt}

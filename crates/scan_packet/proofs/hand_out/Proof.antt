@@ -1,6 +1,5 @@
 -- One test of the lent slices, and then each list is written.
 use mathlib.Core.Path.{_≡_, sym, _∙_}
-use mathlib.Core.Bool.{Bool, true}
 use denote.Ref.{now}
 use Rattle.lists.proofs.Left.{left-refused, left-written}
 use Rattle.scan_packet.specs.Packet.{slices, lentOf, room, handOut}
