@@ -1,15 +1,15 @@
 -- A scan that was read holds together: its counts are those of the lists, and the lent slices hold them.
--- Assumes nothing.
 use mathlib.Core.Path.{_≡_, refl}
 use Prim.Native.Nat.{ℕ, _≤_}
 use native.Mathlib.Omega.{arith}
 use mathlib.Core.Bool.{Bool, true, false, _&&_, cond}
-use mathlib.Core.List.{List, []}
-use lib.Dec.{leb, ltb}
+use mathlib.Core.List.{List, [], _∷_}
+use lib.Dec.{ltb}
 use lib.ListN.{length, drop}
-use borrow.Author.Tests.{leb-true}
 use Rattle.refusal.specs.Outcome.{Outcome, ok, refused, andThen}
+use Rattle.lists.specs.Left.{fits, ifRoom}
 use Rattle.lists.proofs.Cases.{and-true}
+use Rattle.lists.proofs.Left.{fits-true}
 use Rattle.parser.specs.Parser.{Parsed, short, parsed, parse}
 use Rattle.parser.specs.Call.{Call, answer, part, onward, outcome}
 use Rattle.scan_index.specs.declared.ScanIndexEntry.{ScanIndexEntry}
@@ -19,7 +19,7 @@ use Rattle.tray_header.specs.Header.{readTrayHeader}
 use Rattle.tray_header.specs.declared.TrayHeader.{TrayHeader}
 use Rattle.tray_data.specs.Data.{Content, Finding, given, implausible, ofFinding, pairs}
 use Rattle.tray_scan.specs.Scan.{Lengths, Decoded, handOut, withData, eventAndData}
-use Rattle.tray.specs.Scan.{scanFrom, numbered, readScanFrom}
+use Rattle.tray.specs.Scan.{scanFrom, numbered, scanFromOf, readScanFrom}
 
 pub record Consistent (lent : Lengths) (d : Decoded) : Type 0 where
   pub count : d .scan .pairs ≡ length (d .pairs)
@@ -53,20 +53,17 @@ gives {A} P (part {B} q at p k) h s {a} e = go (λ b next. gives P (k b next) (h
 module _ (lent : Lengths) where
   handed-out : (entry : ScanIndexEntry) (e : Event) (next : ℕ) (content : Content) → OnOk (Consistent lent) (handOut lent entry e next content)
   unfolding handOut describe
-  handed-out entry e next content =
-      let ps = pairs (e .coefficients) content in
-      go ps (leb (length ps) (lent .mz) && leb (length ps) (lent .intensity)) (hasRoom (lent .event) (length (e .preamble)) (length (e .reactions)) (length (e .coefficients))) refl refl
+  handed-out entry e next content = go (pairs (e .coefficients) content) _ refl
     where
-      go : (ps : List Pair) (a b : Bool) → (leb (length ps) (lent .mz) && leb (length ps) (lent .intensity)) ≡ a
-          → hasRoom (lent .event) (length (e .preamble)) (length (e .reactions)) (length (e .coefficients)) ≡ b
-          → OnOk (Consistent lent) (cond (a && b) (ok (record { scan = record { entry = entry; event = decoded e next .event; pairs = length ps }; event = decoded e next; pairs = ps })) (refused 8 []))
-      go ps true true i j =
-          let w = and-true (leb (length ps) (lent .mz)) (leb (length ps) (lent .intensity)) i in
+      go : (ps : List Pair) (room : Bool) → (fits ((length ps, lent .mz) ∷ (length ps, lent .intensity) ∷ []) && hasRoom (lent .event) (length (e .preamble)) (length (e .reactions)) (length (e .coefficients))) ≡ room
+          → OnOk (Consistent lent) (ifRoom room (record { scan = record { entry = entry; event = decoded e next .event; pairs = length ps }; event = decoded e next; pairs = ps }))
+      go ps true i =
           let l = lent .event in
-          let v = and-true (leb (length (e .preamble)) (l .preamble) && leb (length (e .reactions)) (l .precursors) && leb (length (e .reactions)) (l .energies)) (leb (length (e .coefficients)) (l .coefficients)) j in
-          record { count = refl; coefficients = refl; in-mz = leb-true _ _ (w .0); in-intensity = leb-true _ _ (w .1); in-coefficients = leb-true _ _ (v .1) }
-      go ps true false i j = tt
-      go ps false b i j = tt
+          let both = and-true (fits ((length ps, lent .mz) ∷ (length ps, lent .intensity) ∷ [])) _ i in
+          let w = fits-true ((length ps, lent .mz) ∷ (length ps, lent .intensity) ∷ []) (both .0) in
+          let v = fits-true ((length (e .preamble), l .preamble) ∷ (length (e .reactions), l .precursors) ∷ (length (e .reactions), l .energies) ∷ (length (e .coefficients), l .coefficients) ∷ []) (both .1) in
+          record { count = refl; coefficients = refl; in-mz = w .0; in-intensity = w .1 .0; in-coefficients = v .1 .1 .1 .0 }
+      go ps false i = tt
 
   found-out : (entry : ScanIndexEntry) (e : Event) (next : ℕ) (x : Finding) → OnOk (Consistent lent) (ofFinding (handOut lent entry e next) x)
   found-out entry e next (given content) = handed-out entry e next content
@@ -77,7 +74,7 @@ module _ (lent : Lengths) where
   from-gives k at h = λ entry _ e next x _. found-out entry e next x
 
   pub consistent : (k at : ℕ) (s : List ℕ) {d : Decoded} → ok d ≡ readScanFrom lent k at s → Consistent lent d
-  unfolding readScanFrom
+  unfolding scanFromOf
   consistent k at s {d} e = go (readTrayHeader s) e
     where
       numbered-gives : (h : TrayHeader) (b : Bool) → Gives (Consistent lent) (cond b (scanFrom lent k at h) (answer (refused 7 [])))

@@ -1,5 +1,4 @@
 -- The parts of a scan, by what the functions answered that read them.
--- Assumes nothing.
 use mathlib.Core.Path.{_≡_, ap}
 use mathlib.Core.Logic.{⊎-elim}
 use Prim.Native.Nat.{ℕ, _+_, _*_}

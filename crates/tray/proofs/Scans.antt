@@ -1,7 +1,6 @@
 -- A scan's outcome from its parts: entry, place of the event, and what follows; and from the header.
--- Assumes nothing.
 use mathlib.Core.Path.{_≡_, _∙_}
-use Prim.Native.Nat.{ℕ, _+_, _*_, _-_, _^_, _≤_, _<_}
+use Prim.Native.Nat.{ℕ, _+_, _*_, _-_, _≤_, _<_}
 use native.Mathlib.Nat.{le-refl}
 use mathlib.Core.List.{List, []}
 use lib.ListN.{length, take, drop, length-drop}
@@ -11,11 +10,11 @@ use Rattle.refusal.specs.Outcome.{ok, refused}
 use Rattle.parser.specs.Call.{Call, part, outcome}
 use Rattle.scan_index.specs.Entry.{entrySize, readEntry}
 use Rattle.scan_index.specs.declared.ScanIndexEntry.{ScanIndexEntry}
-use Rattle.event_walk.specs.Walk.{eventEnd, eventPlace}
-use Rattle.tray_header.specs.Header.{readTrayHeader}
+use Rattle.event_walk.specs.Walk.{eventPlace}
+use Rattle.tray_header.specs.Header.{readHeader}
 use Rattle.tray_header.specs.declared.TrayHeader.{TrayHeader}
 use Rattle.tray_scan.specs.Scan.{Lengths, Decoded, withData, eventAndData, scanOfEntry}
-use Rattle.tray.specs.Scan.{kthEvent, scanIn, scanFrom, overRun, placeOr, nextEvent, placeOf}
+use Rattle.tray.specs.Scan.{kthEvent, scanIn, scanFrom, numbered, overRun}
 use Rattle.tray.proofs.Parts.{entry-found, entry-short, place-found, place-short}
 
 module _ (lent : Lengths) (h : TrayHeader) (k : ℕ) (s : List ℕ) where
@@ -48,41 +47,21 @@ module _ (lent : Lengths) (h : TrayHeader) (k : ℕ) (s : List ℕ) where
     unfolding scanIn walked scanOfEntry eventAndData
     at-place i = place-found h s (λ e next. withData lent h entry e next) k i ∙ entry-found h k s walked e
 
--- the header decides first
-module _ (call : TrayHeader → Call Decoded) (k : ℕ) (s : List ℕ) where
-  pub no-header : {n : ℕ} {carries : List ℕ} → refused n carries ≡ readTrayHeader s → refused n carries ≡ overRun (readTrayHeader s) k call s
+-- the header decides first, and then the number
+module _ (limit number : ℕ) (s : List ℕ) {A : Type 0} (call : TrayHeader → Call A) where
+  pub no-header : {n : ℕ} {carries : List ℕ} → refused n carries ≡ readHeader limit number s → refused n carries ≡ overRun (readHeader limit number s) call s
   no-header e = rw (← e)
 
-  module _ {h : TrayHeader} (e : ok h ≡ readTrayHeader s) where
-    pub no-scan : h .scans ≤ k → refused 7 [] ≡ overRun (readTrayHeader s) k call s
+  module _ {h : TrayHeader} (e : ok h ≡ readHeader limit number s) where
+    pub in-run : outcome (call h) (drop 32 s) ≡ overRun (readHeader limit number s) call s
+    in-run = rw (← e)
+
+    pub no-scan : (k : ℕ) → h .scans ≤ k → refused 7 [] ≡ overRun (readHeader limit number s) (λ h. numbered k h (call h)) s
     unfolding outcome
-    no-scan l = rw (← e, le-ltb k (h .scans) l)
+    no-scan k l = rw (← e, le-ltb k (h .scans) l)
 
-    pub in-run : k < h .scans → outcome (call h) (drop 32 s) ≡ overRun (readTrayHeader s) k call s
-    in-run l = rw (← e, lt-ltb k (h .scans) l)
-
--- the places of events
-module _ (s : List ℕ) where
-  pub no-next : (at : ℕ) {n : ℕ} {carries : List ℕ} → refused n carries ≡ readTrayHeader s → 2 ^ 64 - 1 ≡ nextEvent at s
-  unfolding nextEvent
-  no-next at e = rw (← e)
-
-  pub nowhere : (k : ℕ) {n : ℕ} {carries : List ℕ} → refused n carries ≡ readTrayHeader s → 2 ^ 64 - 1 ≡ placeOf k s
-  unfolding placeOf
-  nowhere k e = rw (← e)
-
-  module _ {h : TrayHeader} (e : ok h ≡ readTrayHeader s) where
-    pub next-is : (at : ℕ) → placeOr (eventEnd (h .version) (h .primary) (h .dependent) at (drop 32 s)) ≡ nextEvent at s
-    unfolding nextEvent
-    next-is at = rw (← e)
-
-    pub no-number : (k : ℕ) → h .scans ≤ k → 2 ^ 64 - 1 ≡ placeOf k s
-    unfolding placeOf
-    no-number k l = rw (← e, le-ltb k (h .scans) l)
-
-    pub place-is : (k : ℕ) → k < h .scans → placeOr (eventPlace (h .version) (h .primary) (h .dependent) (h .events) k (drop 32 s)) ≡ placeOf k s
-    unfolding placeOf
-    place-is k l = rw (← e, lt-ltb k (h .scans) l)
+    pub in-scan : (k : ℕ) → k < h .scans → outcome (call h) (drop 32 s) ≡ overRun (readHeader limit number s) (λ h. numbered k h (call h)) s
+    in-scan k l = rw (← e, lt-ltb k (h .scans) l)
 
 -- the run, as a part of the tray
 pub run-is : (s : List ℕ) → take (length s - 32) (drop 32 s) ≡ drop 32 s

@@ -1,19 +1,16 @@
 -- Scan k of a tray (document 01, "Tray"): header, entry k, event k, and the data.
-use Prim.Native.Nat.{ℕ, _*_, _-_, _^_}
+use Prim.Native.Nat.{ℕ, _*_}
 use mathlib.Core.Bool.{cond}
 use mathlib.Core.List.{List, []}
 use lib.Dec.{ltb}
 use lib.ListN.{drop}
 use Rattle.refusal.specs.Outcome.{Outcome, ok, refused, andThen}
-use Rattle.lists.specs.Written.{over}
 use Rattle.parser.specs.Parser.{Parser, _>>_, skip, repeat}
-use Rattle.parser.specs.Call.{Call, answer, part, outcome}
+use Rattle.parser.specs.Call.{Call, answer, part, outcome, single}
 use Rattle.scan_index.specs.Entry.{entry, entrySize}
 use Rattle.scan_index.specs.declared.ScanIndexEntry.{ScanIndexEntry}
 use Rattle.scan_event.specs.Event.{Event}
-use Rattle.scan_event.specs.Event as event
-use Rattle.event_walk.specs.Walk.{eventEnd, eventPlace}
-use Rattle.tray_header.specs.Header.{readTrayHeader}
+use Rattle.tray_header.specs.Header.{readHeader}
 use Rattle.tray_header.specs.declared.TrayHeader.{TrayHeader}
 use Rattle.tray_scan.specs.Scan.{eventIn, Lengths, Decoded, withData, eventAndData}
 
@@ -37,32 +34,44 @@ scanFrom lent k at h =
     part 2 (h .index) (entryIn h k) λ entry _.
     eventAndData lent h entry at
 
+-- where event k stands, and where the event at a place ends: the events are part 3
+unfoldable pub placeIn : ℕ → TrayHeader → Call ℕ
+placeIn k h = single 3 (h .events) (repeat k (eventIn h)) (λ _ next. ok next)
+
+unfoldable pub endIn : ℕ → TrayHeader → Call ℕ
+endIn at h = single 3 at (eventIn h) (λ _ next. ok next)
+
 -- k is below the count, or refusal 7
-abbrev pub numbered : ℕ → TrayHeader → Call Decoded → Call Decoded
+abbrev pub numbered : {A : Type 0} → ℕ → TrayHeader → Call A → Call A
 numbered k h call = cond (ltb k (h .scans)) call (answer (refused 7 []))
 
 -- a call over the run of a tray, which starts at byte 32
-abbrev pub overRun : Outcome TrayHeader → ℕ → (TrayHeader → Call Decoded) → List ℕ → Outcome Decoded
-overRun header k call tray = andThen header (λ h. outcome (numbered k h (call h)) (drop 32 tray))
+abbrev pub overRun : {A : Type 0} → Outcome TrayHeader → (TrayHeader → Call A) → List ℕ → Outcome A
+overRun header call tray = andThen header (λ h. outcome (call h) (drop 32 tray))
 
--- what `read_scan` and `read_scan_from` answer
-unfoldable pub readScan : Lengths → ℕ → List ℕ → Outcome Decoded
-readScan lent k tray = overRun (readTrayHeader tray) k (scanIn lent k) tray
+-- the calls over a tray of at most `limit` scans, where more are a refusal of this number
+module _ (limit number : ℕ) where
+  unfoldable pub scanOf : Lengths → ℕ → List ℕ → Outcome Decoded
+  scanOf lent k tray = overRun (readHeader limit number tray) (λ h. numbered k h (scanIn lent k h)) tray
 
-unfoldable pub readScanFrom : Lengths → ℕ → ℕ → List ℕ → Outcome Decoded
-readScanFrom lent k at tray = overRun (readTrayHeader tray) k (scanFrom lent k at) tray
+  unfoldable pub scanFromOf : Lengths → ℕ → ℕ → List ℕ → Outcome Decoded
+  scanFromOf lent k at tray = overRun (readHeader limit number tray) (λ h. numbered k h (scanFrom lent k at h)) tray
 
--- a place, or the last one that there is, where nothing stands
-abbrev pub placeOr : Outcome ℕ → ℕ
-placeOr (ok at) = at
-placeOr (refused number carries) = 2 ^ 64 - 1
+  unfoldable pub placeOf : ℕ → List ℕ → Outcome ℕ
+  placeOf k tray = overRun (readHeader limit number tray) (λ h. numbered k h (placeIn k h)) tray
 
--- what `next_event` answers: the place behind the event at `at`
-unfoldable pub nextEvent : ℕ → List ℕ → ℕ
-nextEvent at tray = placeOr (andThen (readTrayHeader tray) (λ h. eventEnd (h .version) (h .primary) (h .dependent) at (drop 32 tray)))
+  unfoldable pub endOf : ℕ → List ℕ → Outcome ℕ
+  endOf at tray = overRun (readHeader limit number tray) (endIn at) tray
 
--- what `event_of` answers: where event k stands, if k is below the count
-unfoldable pub placeOf : ℕ → List ℕ → ℕ
-placeOf k tray =
-    placeOr (andThen (readTrayHeader tray) (λ h.
-    cond (ltb k (h .scans)) (eventPlace (h .version) (h .primary) (h .dependent) (h .events) k (drop 32 tray)) (refused 7 [])))
+-- what `read_scan`, `read_scan_from`, `event_of` and `next_event` answer
+abbrev pub readScan : Lengths → ℕ → List ℕ → Outcome Decoded
+readScan = scanOf 4096 6
+
+abbrev pub readScanFrom : Lengths → ℕ → ℕ → List ℕ → Outcome Decoded
+readScanFrom = scanFromOf 4096 6
+
+abbrev pub eventOf : ℕ → List ℕ → Outcome ℕ
+eventOf = placeOf 4096 6
+
+abbrev pub nextEvent : ℕ → List ℕ → Outcome ℕ
+nextEvent = endOf 4096 6

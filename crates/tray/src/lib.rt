@@ -1,15 +1,16 @@
 // Scan k of a tray: entry k of its index and event k, and what `tray_scan` makes of them.
 ghost use mathlib.Core.Path.{_≡_};
 ghost use Prim.Native.Nat.{_+_, _*_, _<_};
+ghost use Rattle.refusal.specs.Number.{toldCount};
 ghost use Rattle.parser.specs.Call.{outcome};
 ghost use Rattle.scan_index.specs.Entry.{entrySize, readEntry};
 ghost use Rattle.scan_index.specs.Entry.{told as toldEntry};
-ghost use Rattle.event_walk.specs.Walk.{told as toldPlace};
-ghost use Rattle.tray_scan.specs.Scan.{result, resultOf};
-ghost use Rattle.tray.specs.Scan.{scanFrom, readScan, readScanFrom, placeOr, nextEvent, placeOf};
-use event_walk::EventPlace;
+ghost use Rattle.tray_scan.specs.Scan.{slices, Answers};
+ghost use Rattle.tray.specs.Scan.{scanFrom, readScan, readScanFrom, eventOf, nextEvent};
+ghost use Rattle.tray.specs.Places.{placeOrEnd};
 use event_walk::event_end;
 use event_walk::event_place;
+use refusal::CountAnswer;
 use refusal::Refusal;
 use scan_index::EntryAnswer;
 use scan_index::ScanIndexEntry;
@@ -42,8 +43,9 @@ fn scan_from(
     intensity: &mut [f64],
 ) -> ScanAnswer
     requires { ⌜ k < 4096 ⌝ }
-    ensures { λ r. ⌜ result r (now (preamble .exit)) (now (precursors .exit)) (now (energies .exit)) (now (coefficients .exit)) (now (mz .exit)) (now (intensity .exit))
-        ≡ resultOf (λ lent. outcome (scanFrom lent k at h) (now (run .entry))) (now (preamble .entry)) (now (precursors .entry)) (now (energies .entry)) (now (coefficients .entry)) (now (mz .entry)) (now (intensity .entry)) ⌝ }
+    ensures { λ r. ⌜ Answers (λ lent. outcome (scanFrom lent k at h) (now (run .entry)))
+        (slices (now (preamble .entry)) (now (precursors .entry)) (now (energies .entry)) (now (coefficients .entry)) (now (mz .entry)) (now (intensity .entry)))
+        r (slices (now (preamble .exit)) (now (precursors .exit)) (now (energies .exit)) (now (coefficients .exit)) (now (mz .exit)) (now (intensity .exit))) ⌝ }
 {
     match entry_of(run, h, k) {
         EntryAnswer::Refused(r) => ScanAnswer::Refused(r),
@@ -74,8 +76,9 @@ pub fn read_scan_from(
     mz: &mut [f64],
     intensity: &mut [f64],
 ) -> ScanAnswer
-    ensures { λ r. ⌜ result r (now (preamble .exit)) (now (precursors .exit)) (now (energies .exit)) (now (coefficients .exit)) (now (mz .exit)) (now (intensity .exit))
-        ≡ resultOf (λ lent. readScanFrom lent k at (now (tray .entry))) (now (preamble .entry)) (now (precursors .entry)) (now (energies .entry)) (now (coefficients .entry)) (now (mz .entry)) (now (intensity .entry)) ⌝ }
+    ensures { λ r. ⌜ Answers (λ lent. readScanFrom lent k at (now (tray .entry)))
+        (slices (now (preamble .entry)) (now (precursors .entry)) (now (energies .entry)) (now (coefficients .entry)) (now (mz .entry)) (now (intensity .entry)))
+        r (slices (now (preamble .exit)) (now (precursors .exit)) (now (energies .exit)) (now (coefficients .exit)) (now (mz .exit)) (now (intensity .exit))) ⌝ }
 {
     match read_tray_header(tray) {
         TrayHeaderAnswer::Refused(r) => ScanAnswer::Refused(r),
@@ -99,44 +102,49 @@ pub fn read_scan_from(
     }
 }
 
-fn place_or(found: EventPlace) -> u64
-    ensures { λ r. ⌜ r ≡ placeOr (toldPlace found) ⌝ }
+// Where event k stands in the run.
+pub fn event_of(tray: &[u8], k: u32) -> CountAnswer
+    ensures { λ r. ⌜ toldCount r ≡ eventOf k (now (tray .entry)) ⌝ }
+{
+    match read_tray_header(tray) {
+        TrayHeaderAnswer::Refused(r) => CountAnswer::Refused(r),
+        TrayHeaderAnswer::Header(h) => {
+            if h.scans <= k {
+                return CountAnswer::Refused(Refusal::NoSuchScan);
+            }
+            let run = &tray[32..];
+            event_place(
+                run,
+                h.events as u64,
+                k as u16,
+                h.version,
+                h.primary,
+                h.dependent,
+            )
+        }
+    }
+}
+
+// Where the event at a place of the run ends, and the next one starts.
+pub fn next_event(tray: &[u8], at: u64) -> CountAnswer
+    ensures { λ r. ⌜ toldCount r ≡ nextEvent at (now (tray .entry)) ⌝ }
+{
+    match read_tray_header(tray) {
+        TrayHeaderAnswer::Refused(r) => CountAnswer::Refused(r),
+        TrayHeaderAnswer::Header(h) => {
+            event_end(&tray[32..], at, h.version, h.primary, h.dependent)
+        }
+    }
+}
+
+// A place to read event k at. Where there is none it is behind every run: entry k is judged first, and then the events.
+fn place_or_end(found: CountAnswer) -> u64
+    ensures { λ r. ⌜ r ≡ placeOrEnd (toldCount found) ⌝ }
 {
     match found {
-        EventPlace::Refused(_) => u64::MAX,
-        EventPlace::At(at) => at,
+        CountAnswer::Refused(_) => u64::MAX,
+        CountAnswer::Count(at) => at,
     }
-}
-
-// The place of event k in the run; 2^64 - 1, where nothing stands, if there is no such scan or the events run out before.
-pub fn event_of(tray: &[u8], k: u32) -> u64
-    ensures { λ r. ⌜ r ≡ placeOf k (now (tray .entry)) ⌝ }
-{
-    let TrayHeaderAnswer::Header(h) = read_tray_header(tray) else {
-        return u64::MAX;
-    };
-    if k >= h.scans {
-        return u64::MAX;
-    }
-    let run = &tray[32..];
-    place_or(event_place(
-        run,
-        h.events as u64,
-        k as u16,
-        h.version,
-        h.primary,
-        h.dependent,
-    ))
-}
-
-// The place behind the event at a place of the run; 2^64 - 1, where nothing stands, if the events run out there.
-pub fn next_event(tray: &[u8], at: u64) -> u64
-    ensures { λ r. ⌜ r ≡ nextEvent at (now (tray .entry)) ⌝ }
-{
-    let TrayHeaderAnswer::Header(h) = read_tray_header(tray) else {
-        return u64::MAX;
-    };
-    place_or(event_end(&tray[32..], at, h.version, h.primary, h.dependent))
 }
 
 // Scan k of a tray.
@@ -150,13 +158,14 @@ pub fn read_scan(
     mz: &mut [f64],
     intensity: &mut [f64],
 ) -> ScanAnswer
-    ensures { λ r. ⌜ result r (now (preamble .exit)) (now (precursors .exit)) (now (energies .exit)) (now (coefficients .exit)) (now (mz .exit)) (now (intensity .exit))
-        ≡ resultOf (λ lent. readScan lent k (now (tray .entry))) (now (preamble .entry)) (now (precursors .entry)) (now (energies .entry)) (now (coefficients .entry)) (now (mz .entry)) (now (intensity .entry)) ⌝ }
+    ensures { λ r. ⌜ Answers (λ lent. readScan lent k (now (tray .entry)))
+        (slices (now (preamble .entry)) (now (precursors .entry)) (now (energies .entry)) (now (coefficients .entry)) (now (mz .entry)) (now (intensity .entry)))
+        r (slices (now (preamble .exit)) (now (precursors .exit)) (now (energies .exit)) (now (coefficients .exit)) (now (mz .exit)) (now (intensity .exit))) ⌝ }
 {
     read_scan_from(
         tray,
         k,
-        event_of(tray, k),
+        place_or_end(event_of(tray, k)),
         preamble,
         precursors,
         energies,

@@ -1,5 +1,4 @@
 -- `tray::entry_of` meets its contract.
--- Assumes nothing.
 use mathlib.Core.Path.{ap, _∙_}
 use Prim.Native.Nat.{_+_, _*_, _≤_}
 use native.Mathlib.Nat.{mul-le-mul-left}
@@ -11,12 +10,6 @@ use borrow.Author.Needs.{needs}
 use Rattle.tray.proofs.entry_of.Statement.{statement}
 use Rattle.tray.proofs.entry_of.Tie as tie
 
-min-size-for-version-requires : tie.Need-min-size-for-version-requires
-min-size-for-version-requires c κs = search needs
-
-cast-read : tie.Need-cast-read
-cast-read c = search needs
-
 mul-read : tie.Need-mul-read
 mul-read c =
     let few : c .before .min-size-for-version .result ≤ 88 = rw (c .before .min-size-for-version .ensures) (entry-most (c .before .before .before .args .h .version)) in
@@ -27,9 +20,6 @@ add-read c =
     let few : c .before .min-size-for-version .result ≤ 88 = rw (c .before .min-size-for-version .ensures) (entry-most (c .before .before .before .args .h .version)) in
     omega (arith, mul-le-mul-left (c .before .before .before .args .k) few, c .before .before .before .pre)
 
-read-requires : tie.Need-read-requires
-read-requires c κs = search needs
-
 returns : tie.Need-returns
 returns c =
     let a = c .before .before .before .before .args in
@@ -39,4 +29,4 @@ returns c =
 pub entry-of-spec : {M : Type 1} → statement M
 entry-of-spec =
     tie.close
-    (tie.spec min-size-for-version-requires cast-read mul-read add-read read-requires returns)
+    (tie.spec (search needs) (search needs) mul-read add-read (search needs) returns)
