@@ -32,13 +32,4 @@ returns-4 c =
 pub find-flat-peaks-spec : {M : Type 1} → statement M
 find-flat-peaks-spec =
     tie.close
-    (tie.spec
-    (search needs)
-    returns
-    (search needs)
-    (search needs)
-    (search needs)
-    (search needs)
-    returns-2
-    returns-3
-    returns-4)
+    (tie.spec (search needs) returns (search needs) (search needs) (search needs) (search needs) returns-2 returns-3 returns-4)

@@ -37,17 +37,4 @@ returns-5 c =
 pub judge-spec : {M : Type 1} → statement M
 judge-spec =
     tie.close
-    (tie.spec
-    returns
-    (search needs)
-    (search needs)
-    (search needs)
-    returns-2
-    (search needs)
-    (search needs)
-    (search needs)
-    returns-3
-    (search needs)
-    (search needs)
-    returns-4
-    returns-5)
+    (tie.spec returns (search needs) (search needs) (search needs) returns-2 (search needs) (search needs) (search needs) returns-3 (search needs) (search needs) returns-4 returns-5)

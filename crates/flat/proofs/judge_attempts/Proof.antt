@@ -26,12 +26,4 @@ returns-3 c =
 pub judge-attempts-spec : {M : Type 1} → statement M
 judge-attempts-spec =
     tie.close
-    (tie.spec
-    (search needs)
-    (search needs)
-    (search needs)
-    (search needs)
-    (search needs)
-    returns
-    returns-2
-    returns-3)
+    (tie.spec (search needs) (search needs) (search needs) (search needs) (search needs) returns returns-2 returns-3)

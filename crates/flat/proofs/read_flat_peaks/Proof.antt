@@ -18,12 +18,4 @@ returns-2 c =
 pub read-flat-peaks-spec : {M : Type 1} → statement M
 read-flat-peaks-spec =
     tie.close
-    (tie.spec
-    (search needs)
-    (search needs)
-    (search needs)
-    (search needs)
-    returns
-    (search needs)
-    (search needs)
-    returns-2)
+    (tie.spec (search needs) (search needs) (search needs) (search needs) returns (search needs) (search needs) returns-2)

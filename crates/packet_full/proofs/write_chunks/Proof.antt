@@ -25,7 +25,7 @@ loop-holds c =
     writing-none _ _ (now (a .run)) _ _ _ _ _ _ (p .parsing .end) (p .parsing .there) (p .in-bins) (p .in-counts) (p .in-fudges) (omega (arith, p .in-signal, p .parsing .values, signals-size (chunkList (a .p) (now (a .run)))))
 
 add-u32-at : tie.Need-add-u32-at Inv-loop μ-loop
-add-u32-at c = omega (arith, head-there (c .before .loop .inv) (c .loop-test .taken) _ refl, c .before .before .head-size .ensures)
+add-u32-at c = omega (arith, head-there (c .before .loop .inv) (omega (arith, c .loop-test .taken)) _ refl, c .before .before .head-size .ensures)
 
 slice-write-bins : tie.Need-slice-write-bins Inv-loop μ-loop
 slice-write-bins c = omega (arith, c .before .before .before .loop .inv .bins .same, c .before .before .before .loop .inv .in-bins, c .before .before .loop-test .taken)
@@ -37,41 +37,41 @@ slice-write-fudges : tie.Need-slice-write-fudges Inv-loop μ-loop
 slice-write-fudges c = omega (arith, c .before .before .before .before .loop .inv .fudges .same, c .before .before .before .before .loop .inv .in-fudges, c .before .before .before .loop-test .taken)
 
 add-copy-u32s : tie.Need-add-copy-u32s Inv-loop μ-loop
-add-copy-u32s c = omega (arith, head-there (c .before .before .before .before .loop .inv) (c .before .before .before .loop-test .taken) _ refl, c .before .before .before .before .before .head-size .ensures)
+add-copy-u32s c = omega (arith, head-there (c .before .before .before .before .loop .inv) (omega (arith, c .before .before .before .loop-test .taken)) _ refl, c .before .before .before .before .before .head-size .ensures)
 
 mul-copy-u32s : tie.Need-mul-copy-u32s Inv-loop μ-loop
 mul-copy-u32s c =
     let w = c .before .before .before .before .loop .inv in
-    omega (arith, fits w (c .before .before .before .loop-test .taken) (c .before .before .u32-at .result) (c .before .before .u32-at .ensures), w .same)
+    omega (arith, fits w (omega (arith, c .before .before .before .loop-test .taken)) (c .before .before .u32-at .result) (c .before .before .u32-at .ensures), w .same)
 
 sub-copy-u32s : tie.Need-sub-copy-u32s Inv-loop μ-loop
 sub-copy-u32s c =
     let w = c .before .before .before .before .loop .inv in
-    omega (arith, fits w (c .before .before .before .loop-test .taken) (c .before .before .u32-at .result) (c .before .before .u32-at .ensures), w .same)
+    omega (arith, fits w (omega (arith, c .before .before .before .loop-test .taken)) (c .before .before .u32-at .result) (c .before .before .u32-at .ensures), w .same)
 
 part-copy-u32s-start : tie.Need-part-copy-u32s-start Inv-loop μ-loop
 part-copy-u32s-start c =
     let w = c .before .before .before .before .loop .inv in
-    omega (arith, fits w (c .before .before .before .loop-test .taken) (c .before .before .u32-at .result) (c .before .before .u32-at .ensures), w .same)
+    omega (arith, fits w (omega (arith, c .before .before .before .loop-test .taken)) (c .before .before .u32-at .result) (c .before .before .u32-at .ensures), w .same)
 
 add-written : tie.Need-add-written Inv-loop μ-loop
 add-written c =
     let w = c .before .before .before .before .before .before .before .before .loop .inv in
-    omega (arith, fits w (c .before .before .before .before .before .before .before .loop-test .taken) (c .before .before .before .before .before .before .u32-at .result) (c .before .before .before .before .before .before .u32-at .ensures), w .same, c .before .before .before .before .before .before .before .before .before .before .before .before .before .before .before .before .good .1 .1 .1 .1 .1)
+    omega (arith, fits w (omega (arith, c .before .before .before .before .before .before .before .loop-test .taken)) (c .before .before .before .before .before .before .u32-at .result) (c .before .before .before .before .before .before .u32-at .ensures), w .same, c .before .before .before .before .before .before .before .before .before .before .before .before .before .before .before .before .good .1 .1 .1 .1 .1)
 
 add-at : tie.Need-add-at Inv-loop μ-loop
 add-at c =
     let w = c .before .before .before .before .before .before .before .before .loop .inv in
-    omega (arith, head-there w (c .before .before .before .before .before .before .before .loop-test .taken) (c .before .before .before .before .before .before .u32-at .result) (c .before .before .before .before .before .before .u32-at .ensures), c .before .before .before .before .before .before .before .before .before .head-size .ensures)
+    omega (arith, head-there w (omega (arith, c .before .before .before .before .before .before .before .loop-test .taken)) (c .before .before .before .before .before .before .u32-at .result) (c .before .before .before .before .before .before .u32-at .ensures), c .before .before .before .before .before .before .before .before .before .head-size .ensures)
 
 add-at-2 : tie.Need-add-at-2 Inv-loop μ-loop
 add-at-2 c =
     let w = c .before .before .before .before .before .before .before .before .loop .inv in
-    omega (arith, head-there w (c .before .before .before .before .before .before .before .loop-test .taken) (c .before .before .before .before .before .before .u32-at .result) (c .before .before .before .before .before .before .u32-at .ensures), values-there w (c .before .before .before .before .before .before .before .loop-test .taken) (c .before .before .before .before .before .before .u32-at .result) (c .before .before .before .before .before .before .u32-at .ensures), c .before .before .before .before .before .before .before .before .before .head-size .ensures .0)
+    omega (arith, head-there w (omega (arith, c .before .before .before .before .before .before .before .loop-test .taken)) (c .before .before .before .before .before .before .u32-at .result) (c .before .before .before .before .before .before .u32-at .ensures), values-there w (omega (arith, c .before .before .before .before .before .before .before .loop-test .taken)) (c .before .before .before .before .before .before .u32-at .result) (c .before .before .before .before .before .before .u32-at .ensures), c .before .before .before .before .before .before .before .before .before .head-size .ensures .0)
 
 loop-again : tie.Need-loop-again Inv-loop μ-loop
 loop-again c =
-    turn-by (c .before .before .before .before .before .before .before .before .loop .inv) (c .before .before .before .before .before .before .before .loop-test .taken) (c .before .before .before .before .before .before .u32-at .result) (c .before .before .before .before .before .before .u32-at .ensures) (c .before .before .before .before .before .u32-at2 .ensures) refl (c .before .before .before .before .fudge-at .ensures) (c .before .before .before .before .before .before .before .before .before .head-size .ensures .0) _ (c .before .before .copy-u32s .ensures .stands) refl
+    turn-by (c .before .before .before .before .before .before .before .before .loop .inv) (omega (arith, c .before .before .before .before .before .before .before .loop-test .taken)) (c .before .before .before .before .before .before .u32-at .result) (c .before .before .before .before .before .before .u32-at .ensures) (c .before .before .before .before .before .u32-at2 .ensures) refl (c .before .before .before .before .fudge-at .ensures) (c .before .before .before .before .before .before .before .before .before .head-size .ensures .0) _ (c .before .before .copy-u32s .ensures .stands) refl
 
 same-length : tie.Need-same-length Inv-loop μ-loop
 same-length c = c .before .loop .inv .bins .same
@@ -94,40 +94,7 @@ returns c =
 pub write-chunks-spec : {M : Type 1} → statement M
 write-chunks-spec =
     tie.close
-    (tie.spec
-    Inv-loop
-    μ-loop
-    (search needs)
-    (search needs)
-    loop-holds
-    add-u32-at
-    (search needs)
-    (search needs)
-    (search needs)
-    slice-write-bins
-    (search needs)
-    slice-write-counts
-    (search needs)
-    (search needs)
-    slice-write-fudges
-    add-copy-u32s
-    (search needs)
-    mul-copy-u32s
-    sub-copy-u32s
-    part-copy-u32s-start
-    (search needs)
-    (search needs)
-    (search needs)
-    add-written
-    add-at
-    (search needs)
-    (search needs)
-    add-at-2
-    (search needs)
-    (search needs)
-    loop-again
-    same-length
-    same-length-2
-    same-length-3
-    same-length-4
-    returns)
+    (tie.spec Inv-loop μ-loop (search needs) (search needs) loop-holds add-u32-at (search needs) (search needs) (search needs) slice-write-bins (search needs)
+    slice-write-counts (search needs) (search needs) slice-write-fudges add-copy-u32s (search needs) mul-copy-u32s sub-copy-u32s part-copy-u32s-start (search needs)
+    (search needs) (search needs) add-written add-at (search needs) (search needs) add-at-2 (search needs) (search needs) loop-again same-length same-length-2 same-length-3
+    same-length-4 returns)

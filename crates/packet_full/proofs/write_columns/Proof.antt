@@ -19,13 +19,4 @@ returns-2 c = rw (c .before .before .before .before .before .before .before .bef
 pub write-columns-spec : {M : Type 1} → statement M
 write-columns-spec =
     tie.close
-    (tie.spec
-    (search needs)
-    (search needs)
-    write-chunks-requires
-    returns
-    (search needs)
-    (search needs)
-    (search needs)
-    (search needs)
-    returns-2)
+    (tie.spec (search needs) (search needs) write-chunks-requires returns (search needs) (search needs) (search needs) (search needs) returns-2)

@@ -30,14 +30,4 @@ returns-3 c =
 pub behind-header-spec : {M : Type 1} → statement M
 behind-header-spec =
     tie.close
-    (tie.spec
-    (search needs)
-    (search needs)
-    (search needs)
-    (search needs)
-    (search needs)
-    (search needs)
-    (search needs)
-    returns
-    returns-2
-    returns-3)
+    (tie.spec (search needs) (search needs) (search needs) (search needs) (search needs) (search needs) (search needs) returns returns-2 returns-3)

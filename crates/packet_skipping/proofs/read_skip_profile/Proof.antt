@@ -32,18 +32,5 @@ returns-3 c =
 pub read-skip-profile-spec : {M : Type 1} → statement M
 read-skip-profile-spec =
     tie.close
-    (tie.spec
-    (search needs)
-    (search needs)
-    (search needs)
-    (search needs)
-    (search needs)
-    (search needs)
-    (search needs)
-    returns
-    returns-2
-    (search needs)
-    (search needs)
-    (search needs)
-    (search needs)
-    returns-3)
+    (tie.spec (search needs) (search needs) (search needs) (search needs) (search needs) (search needs) (search needs) returns returns-2 (search needs) (search needs)
+    (search needs) (search needs) returns-3)

@@ -35,19 +35,5 @@ returns-4 c =
 pub read-peaks-spec : {M : Type 1} → statement M
 read-peaks-spec =
     tie.close
-    (tie.spec
-    (search needs)
-    returns
-    (search needs)
-    (search needs)
-    (search needs)
-    (search needs)
-    mul-all
-    (search needs)
-    (search needs)
-    (search needs)
-    (search needs)
-    (search needs)
-    returns-2
-    returns-3
-    returns-4)
+    (tie.spec (search needs) returns (search needs) (search needs) (search needs) (search needs) mul-all (search needs) (search needs) (search needs) (search needs)
+    (search needs) returns-2 returns-3 returns-4)

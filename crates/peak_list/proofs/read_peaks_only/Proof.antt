@@ -20,13 +20,4 @@ returns-2 c =
 pub read-peaks-only-spec : {M : Type 1} → statement M
 read-peaks-only-spec =
     tie.close
-    (tie.spec
-    (search needs)
-    (search needs)
-    (search needs)
-    (search needs)
-    (search needs)
-    returns
-    (search needs)
-    (search needs)
-    returns-2)
+    (tie.spec (search needs) (search needs) (search needs) (search needs) (search needs) returns (search needs) (search needs) returns-2)

@@ -48,20 +48,5 @@ returns-4 c =
 pub skip-to-peaks-spec : {M : Type 1} → statement M
 skip-to-peaks-spec =
     tie.close
-    (tie.spec
-    (search needs)
-    (search needs)
-    (search needs)
-    returns
-    (search needs)
-    (search needs)
-    add-remaining
-    (search needs)
-    add-read-peaks
-    add-read-peaks-2
-    (search needs)
-    (search needs)
-    (search needs)
-    returns-2
-    returns-3
-    returns-4)
+    (tie.spec (search needs) (search needs) (search needs) returns (search needs) (search needs) add-remaining (search needs) add-read-peaks add-read-peaks-2 (search needs)
+    (search needs) (search needs) returns-2 returns-3 returns-4)

@@ -46,4 +46,5 @@ returns-2 c = list-written _ _ (length-each _ _) (rw length-each (omega arith)) 
 pub copy-widened-spec : {M : Type 1} → statement M
 copy-widened-spec =
     tie.close
-    (tie.spec Inv-loop μ-loop returns (λ c. (fill-none _ _ _, omega arith)) (search needs) (search needs) (search needs) slice-write-out (search needs) (search needs) (search needs) loop-again same-length returns-2)
+    (tie.spec Inv-loop μ-loop returns (λ c. (fill-none _ _ _, omega arith)) (search needs) (search needs) (search needs) slice-write-out (search needs) (search needs)
+    (search needs) loop-again same-length returns-2)

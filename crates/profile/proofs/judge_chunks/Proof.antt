@@ -57,25 +57,5 @@ returns-3 c =
 pub judge-chunks-spec : {M : Type 1} → statement M
 judge-chunks-spec =
     tie.close
-    (tie.spec
-    Inv-loop
-    μ-loop
-    (search needs)
-    loop-holds
-    (search needs)
-    returns
-    (search needs)
-    (search needs)
-    (search needs)
-    (search needs)
-    (search needs)
-    (search needs)
-    returns-2
-    (search needs)
-    (search needs)
-    (search needs)
-    (search needs)
-    (search needs)
-    (search needs)
-    loop-again
-    returns-3)
+    (tie.spec Inv-loop μ-loop (search needs) loop-holds (search needs) returns (search needs) (search needs) (search needs) (search needs) (search needs) (search needs)
+    returns-2 (search needs) (search needs) (search needs) (search needs) (search needs) (search needs) loop-again returns-3)

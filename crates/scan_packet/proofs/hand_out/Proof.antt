@@ -33,16 +33,4 @@ returns-2 c = left-refused (rw (sym (test (c .before)) ∙ c .if1 .left))
 pub hand-out-spec : {M : Type 1} → statement M
 hand-out-spec =
     tie.close
-    (tie.spec
-    (search needs)
-    (search needs)
-    (search needs)
-    (search needs)
-    write-lists-requires
-    (search needs)
-    (search needs)
-    (search needs)
-    (search needs)
-    (search needs)
-    returns
-    returns-2)
+    (tie.spec (search needs) (search needs) (search needs) (search needs) write-lists-requires (search needs) (search needs) (search needs) (search needs) (search needs) returns returns-2)

@@ -39,15 +39,4 @@ returns-4 c =
 pub count-channels-spec : {M : Type 1} → statement M
 count-channels-spec =
     tie.close
-    (tie.spec
-    (search needs)
-    (search needs)
-    (search needs)
-    returns
-    mul-all
-    add-all
-    (search needs)
-    (search needs)
-    returns-2
-    returns-3
-    returns-4)
+    (tie.spec (search needs) (search needs) (search needs) returns mul-all add-all (search needs) (search needs) returns-2 returns-3 returns-4)

@@ -43,13 +43,4 @@ returns-2 c =
 pub find-srm-peaks-spec : {M : Type 1} → statement M
 find-srm-peaks-spec =
     tie.close
-    (tie.spec
-    (search needs)
-    (search needs)
-    (search needs)
-    (search needs)
-    add-t9
-    mul-t10
-    add-t11
-    returns
-    returns-2)
+    (tie.spec (search needs) (search needs) (search needs) (search needs) add-t9 mul-t10 add-t11 returns returns-2)

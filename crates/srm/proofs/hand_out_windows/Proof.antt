@@ -21,13 +21,4 @@ returns-2 c =
 pub hand-out-windows-spec : {M : Type 1} → statement M
 hand-out-windows-spec =
     tie.close
-    (tie.spec
-    (search needs)
-    (search needs)
-    (search needs)
-    (search needs)
-    (search needs)
-    (search needs)
-    (search needs)
-    returns
-    returns-2)
+    (tie.spec (search needs) (search needs) (search needs) (search needs) (search needs) (search needs) (search needs) returns returns-2)

@@ -34,14 +34,4 @@ returns-2 c =
 pub read-scan-srm-v66-windows-spec : {M : Type 1} → statement M
 read-scan-srm-v66-windows-spec =
     tie.close
-    (tie.spec
-    (search needs)
-    (search needs)
-    (search needs)
-    (search needs)
-    add-hand-out-windows
-    hand-out-windows-requires
-    returns
-    (search needs)
-    (search needs)
-    returns-2)
+    (tie.spec (search needs) (search needs) (search needs) (search needs) add-hand-out-windows hand-out-windows-requires returns (search needs) (search needs) returns-2)
