@@ -21,7 +21,8 @@ use Rattle.scan_packet.specs.declared.Places.{Places}
 use Rattle.packet_header.specs.declared.PacketHeader as head
 use Rattle.packet_places.specs.Packet.{stored, packet}
 use Rattle.packet_places.specs.Places.{findPlaces}
-use Rattle.packet_places.proofs.Answers.{present-parsed, packet-short, Standing, standing}
+use Rattle.packet_places.proofs.Stages.{present-parsed}
+use Rattle.packet_places.proofs.Answers.{packet-short, Standing, standing}
 use Rattle.flat.specs.Flat.{Attempt, accepted, passedOver, flatPeaks, ofAccepted, findFlatPeaks}
 use Rattle.flat.proofs.Answers as flat
 use Rattle.srm.specs.Scan.{scan, peaks, findPeaks}

@@ -9,11 +9,11 @@ use Rattle.tray_data.proofs.find_packet.Statement.{statement}
 use Rattle.tray_data.proofs.find_packet.Tie as tie
 
 returns : tie.Need-returns
-returns c = ap (onOk (λ (v : Places). packetData (v .profile) v)) (sym (ap toldPlaces (c .before .r .given .1)) ∙ c .before .before .before .find-places .ensures)
+returns c = ap (onOk (λ (v : Places). packetData (v .profile) v)) (sym (ap toldPlaces (c .before .r .given .1)) ∙ c .before .before .before .find-places .ensures .0)
 
 returns-2 : tie.Need-returns-2
 returns-2 c =
-    ap ok (c .packet-data .ensures) ∙ ap (onOk (λ (v : Places). packetData (v .profile) v)) (sym (ap toldPlaces (c .before .before .places .given .1)) ∙ c .before .before .before .before .find-places .ensures)
+    ap ok (c .packet-data .ensures) ∙ ap (onOk (λ (v : Places). packetData (v .profile) v)) (sym (ap toldPlaces (c .before .before .places .given .1)) ∙ c .before .before .before .before .find-places .ensures .0)
 
 pub find-packet-spec : {M : Type 1} → statement M
 find-packet-spec =
