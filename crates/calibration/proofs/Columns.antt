@@ -3,14 +3,13 @@ use mathlib.Core.Path.{_≡_, ap, sym, _∙_}
 use Prim.Native.Nat.{ℕ, _≤_}
 use mathlib.Core.Bool.{true}
 use mathlib.Core.List.{List, [], _∷_}
-use lib.ListN.{length, length-map}
+use lib.ListN.{length}
 use borrow.Author.Tests.{le-leb}
-use native.Mathlib.Omega.{arith}
 use Rattle.refusal.specs.declared.CountAnswer.{CountAnswer}
 use Rattle.refusal.specs.declared.CountAnswer.the-variants.{Count}
 use Rattle.lists.specs.Written.{each, over}
 use Rattle.lists.specs.Left.{after, fits, firsts, seconds, handOutPairs, LeftPairs}
-use Rattle.lists.proofs.Left.{fits-true, left-written}
+use Rattle.lists.proofs.Left.{left-written}
 use Rattle.lists.proofs.Laws.{length-each, map-each}
 
 module _ {A B : Type 0} (ps : List (A × B)) (xs : List A) (ys : List B) {xs′ : List A} {ys′ : List B} where

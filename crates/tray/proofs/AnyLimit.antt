@@ -21,7 +21,7 @@ use Rattle.parser.proofs.Completion.{Bounded, bounded-more, yields-parsed, drop
 use Rattle.parser.proofs.Asks.{Any, asks-sized, asks-bind, asks-repeat}
 use Rattle.parser.proofs.Calls.{Avoids, Covers}
 use Rattle.parser.proofs.Behind.{behind-prefix, head-completes, behind-completes}
-use Rattle.parser.proofs.OnLongerBytes.{Completing, plain-longer, left-longer}
+use Rattle.parser.proofs.OnLongerBytes.{plain-longer, left-longer}
 use Rattle.scan_index.specs.Entry.{entrySize, readEntry}
 use Rattle.scan_index.specs.Entry as Entry
 use Rattle.scan_index.specs.declared.ScanIndexEntry.{ScanIndexEntry}

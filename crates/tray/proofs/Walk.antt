@@ -18,7 +18,7 @@ use Rattle.event_walk.specs.Walk.{eventEnd, eventPlace}
 use Rattle.event_walk.proofs.Steps.{place-none, place-more, none-behind}
 use Rattle.tray_header.specs.Header.{readHeader, readTrayHeader}
 use Rattle.tray_header.specs.declared.TrayHeader.{TrayHeader}
-use Rattle.tray_scan.specs.Scan.{eventIn, Lengths, Decoded, scanOfEntry}
+use Rattle.tray_scan.specs.Scan.{eventIn, Lengths, scanOfEntry}
 use Rattle.tray_scan.proofs.Results.{event-short}
 use Rattle.tray.specs.Scan.{scanIn, scanFrom, placeIn, endIn, numbered, overRun, scanOf, scanFromOf, placeOf, endOf, readScan, readScanFrom, eventOf, nextEvent}
 use Rattle.tray.specs.Places.{placeOrEnd}
@@ -58,11 +58,11 @@ module _ (lent : Lengths) (h : TrayHeader) (k at : ℕ) (s : List ℕ) where
 -- ---- in a tray, whatever its limit of scans is
 module _ (limit number : ℕ) (s : List ℕ) where
   module _ {h : TrayHeader} (e : ok h ≡ readHeader limit number s) where
-    first-of : 0 < h .scans → placeOf limit number 0 s ≡ ok (h .events)
+    pub first-of : 0 < h .scans → placeOf limit number 0 s ≡ ok (h .events)
     unfolding placeOf placeIn eventPlace
     first-of l = sym (in-scan limit number s (placeIn 0) e 0 l) ∙ place-none (h .version) (h .primary) (h .dependent) (drop 32 s) (h .events)
 
-    next-of : (k : ℕ) → suc k < h .scans → placeOf limit number (suc k) s ≡ andThen (placeOf limit number k s) (λ at. endOf limit number at s)
+    pub next-of : (k : ℕ) → suc k < h .scans → placeOf limit number (suc k) s ≡ andThen (placeOf limit number k s) (λ at. endOf limit number at s)
     unfolding placeOf endOf placeIn endIn eventPlace eventEnd
     next-of k l =
         sym (in-scan limit number s (placeIn (suc k)) e (suc k) l)
@@ -88,10 +88,10 @@ module _ (limit number : ℕ) (s : List ℕ) where
         go (ok h) j = by (ltb k (h .scans)) h j
         go (refused n carries) j = refl
 
-    from-place-of : ok at ≡ placeOf limit number k s → scanFromOf limit number lent k at s ≡ scanOf limit number lent k s
+    pub from-place-of : ok at ≡ placeOf limit number k s → scanFromOf limit number lent k at s ≡ scanOf limit number lent k s
     from-place-of = in-tray (ok at) (λ h. at-event lent h k at (drop 32 s))
 
-    no-place-of : (n : ℕ) (carries : List ℕ) → refused n carries ≡ placeOf limit number k s → length s ≤ at → scanFromOf limit number lent k at s ≡ scanOf limit number lent k s
+    pub no-place-of : (n : ℕ) (carries : List ℕ) → refused n carries ≡ placeOf limit number k s → length s ≤ at → scanFromOf limit number lent k at s ≡ scanOf limit number lent k s
     no-place-of n carries i far =
         let behind : length (drop 32 s) ≤ at = simp length-drop (omega arith) in
         in-tray (refused n carries) (λ h j. behind-run lent h k at (drop 32 s) j behind) i

@@ -1,12 +1,12 @@
 -- What an event's reader left: the event over the slices' fronts, or a refusal for want of room.
-use mathlib.Core.Path.{_≡_, refl, ap, sym, _∙_}
+use mathlib.Core.Path.{_≡_, refl, ap, _∙_}
 use Prim.Native.Nat.{ℕ, _≤_}
 use native.Mathlib.Omega.{arith}
 use mathlib.Core.Bool.{Bool, true, false}
 use mathlib.Core.List.{List, [], _∷_}
 use lib.ListN.{length, take, drop}
 use lib.Seq.{take-append-seam}
-use Rattle.refusal.specs.Outcome.{Outcome, ok, refused}
+use Rattle.refusal.specs.Outcome.{ok, refused}
 use Rattle.lists.specs.Left.{Left, ifRoom}
 use Rattle.lists.specs.Written.{over}
 use Rattle.lists.proofs.Laws.{length-over}

@@ -25,7 +25,7 @@ use Rattle.tray_header.specs.declared.TrayHeader.{TrayHeader}
 use Rattle.tray_data.specs.Data.{pairs, findData, contentAt, countOf}
 use Rattle.tray_data.specs.declared.ScanData.{ScanData}
 use Rattle.tray_data.proofs.Answers.{data-found, data-refused, data-count}
-use Rattle.tray_scan.specs.Scan.{formatIn, Lengths, Decoded, handOut, withData, eventAndData, scanOfEntry, Slices, Answers}
+use Rattle.tray_scan.specs.Scan.{formatIn, Lengths, handOut, withData, eventAndData, scanOfEntry, Slices, Answers}
 use Rattle.tray_scan.specs.Judged.{Judged}
 use Rattle.tray_scan.specs.declared.Scan.{Scan}
 use Rattle.tray_scan.specs.declared.ScanAnswer.the-variants as answer

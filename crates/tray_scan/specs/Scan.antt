@@ -13,7 +13,6 @@ use Rattle.parser.specs.Parser.{Parser}
 use Rattle.parser.specs.Call.{Call, answer, part, outcome}
 use Rattle.scan_format.specs.Format.{formatOf}
 use Rattle.scan_format.specs.declared.ScanDataFormat.{ScanDataFormat}
-use Rattle.scan_index.specs.Entry.{entry}
 use Rattle.scan_index.specs.declared.ScanIndexEntry.{ScanIndexEntry}
 use Rattle.scan_event.specs.Event.{Event, decoded, lentOf, hasRoom}
 use Rattle.scan_event.specs.Event as event
