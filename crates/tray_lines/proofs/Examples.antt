@@ -1,5 +1,4 @@
 -- Document 01's worked case, from the tray's bytes to the listing's: antt computes it.
--- Assumes nothing.
 use mathlib.Core.Path.{_≡_, refl}
 use Prim.Native.Nat.{ℕ}
 use mathlib.Core.List.{List, [], _∷_, _++_}
@@ -21,10 +20,10 @@ use Rattle.pairs.specs.Pairs.{peakPairs}
 use Rattle.ten_thousandths.specs.TenThousandths.{scaled, tenThousandths}
 use Rattle.ten_thousandths.specs.TenThousandths as tenths
 use Rattle.lines.specs.Lines.{digit, decimalBy, decimal, hexadecimal, trayLine, scanLines}
-use Rattle.tray_header.specs.Header.{header, judged, readTrayHeader}
+use Rattle.tray_header.specs.Header.{header, judged, readHeader}
 use Rattle.tray_data.specs.Data.{scanData, pairs}
 use Rattle.tray_scan.specs.Scan.{handOut, withData}
-use Rattle.tray.specs.Scan.{entryIn, kthEvent, scanIn, readScan}
+use Rattle.tray.specs.Scan.{entryIn, kthEvent, scanIn, scanOf}
 use Rattle.tray_lines.specs.Listing.{scansText, listing}
 
 -- version 8, flat, no bodies, one scan; index 0, events 72, data 149
@@ -41,5 +40,5 @@ run =
 
 pub worked-case : listing (words ++ run)
     ≡ ascii "T 8 1" ++ 10 ∷ (ascii "S 0 1 0" ++ 10 ∷ (ascii "5000313 4000000000000000" ++ 10 ∷ []))
-unfolding ofBits toBits ofInt round eq lt le each over parse repeat outcome sizeForVersion formatOf layout describe head reaction middle tail before66 event least limit peaksFrom attempt attempts flatPeaks peak peakPairs scaled tenThousandths tenths.limit digit decimalBy decimal hexadecimal trayLine scanLines header judged readTrayHeader scanData pairs entryIn kthEvent handOut withData scanIn readScan scansText listing
+unfolding ofBits toBits ofInt round eq lt le each over parse repeat outcome sizeForVersion formatOf layout describe head reaction middle tail before66 event least limit peaksFrom attempt attempts flatPeaks peak peakPairs scaled tenThousandths tenths.limit digit decimalBy decimal hexadecimal trayLine scanLines header judged readHeader scanData pairs entryIn kthEvent handOut withData scanIn scanOf scansText listing
 worked-case = refl

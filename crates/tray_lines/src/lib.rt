@@ -1,23 +1,21 @@
-// The text of a tray's listing, piece by piece: the header's line, and the lines of one scan.
-ghost use mathlib.Core.Path.{_≡_};
-ghost use Prim.Native.Nat.{min};
-ghost use lib.ListN.{length};
-ghost use Rattle.lists.specs.Written.{fitting};
+// The text of a tray's listing, piece by piece: the header's line, and the lines of one scan. Each function answers how many
+// bytes it wrote, or refusal 8 where the slice does not hold them all.
+ghost use Rattle.lists.specs.Left.{LeftList};
 ghost use Rattle.tray_header.specs.Header.{readTrayHeader};
 ghost use Rattle.tray.specs.Scan.{readScanFrom};
-ghost use Rattle.tray_lines.specs.Listing.{lent, scanText, headerText, scansOf};
+ghost use Rattle.tray_lines.specs.Listing.{lent, scanText, headerText};
 use lines::write_refusal_line;
 use lines::write_scan_lines;
 use lines::write_tray_line;
+use refusal::CountAnswer;
 use tray::read_scan_from;
 use tray_header::TrayHeaderAnswer;
 use tray_header::read_tray_header;
 use tray_scan::ScanAnswer;
 
-// The header's line, at the front of a lent slice, as far as it goes; answers how many bytes were written.
-pub fn list_header(tray: &[u8], out: &mut [u8]) -> u64
-    ensures { λ r. ⌜ r ≡ min (length (headerText (readTrayHeader (now (tray .entry))))) (length (now (out .entry))) ⌝ }
-    ensures { λ _. ⌜ now (out .exit) ≡ fitting (headerText (readTrayHeader (now (tray .entry)))) (now (out .entry)) ⌝ }
+// The header's line.
+pub fn list_header(tray: &[u8], out: &mut [u8]) -> CountAnswer
+    ensures { λ r. ⌜ LeftList (headerText (readTrayHeader (now (tray .entry)))) (now (out .entry)) r (now (out .exit)) ⌝ }
 {
     match read_tray_header(tray) {
         TrayHeaderAnswer::Refused(r) => write_refusal_line(0, r, out),
@@ -25,20 +23,9 @@ pub fn list_header(tray: &[u8], out: &mut [u8]) -> u64
     }
 }
 
-// How many scans are listed behind the header.
-pub fn listed_scans(tray: &[u8]) -> u32
-    ensures { λ r. ⌜ r ≡ scansOf (readTrayHeader (now (tray .entry))) ⌝ }
-{
-    match read_tray_header(tray) {
-        TrayHeaderAnswer::Refused(_) => 0,
-        TrayHeaderAnswer::Header(h) => h.scans,
-    }
-}
-
 // The lines of scan k, whose event stands at this place of the run.
-pub fn list_scan(tray: &[u8], k: u32, at: u64, out: &mut [u8]) -> u64
-    ensures { λ r. ⌜ r ≡ min (length (scanText k (readScanFrom lent k at (now (tray .entry))))) (length (now (out .entry))) ⌝ }
-    ensures { λ _. ⌜ now (out .exit) ≡ fitting (scanText k (readScanFrom lent k at (now (tray .entry)))) (now (out .entry)) ⌝ }
+pub fn list_scan(tray: &[u8], k: u32, at: u64, out: &mut [u8]) -> CountAnswer
+    ensures { λ r. ⌜ LeftList (scanText k (readScanFrom lent k at (now (tray .entry)))) (now (out .entry)) r (now (out .exit)) ⌝ }
 {
     let mut preamble = [0u8; 136];
     let mut precursors = [0u64; 64];

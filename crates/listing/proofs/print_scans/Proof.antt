@@ -1,51 +1,43 @@
--- `listing::print_scans` ends: k rises to the count, and the text's array keeps its length.
--- Assumes nothing.
-use mathlib.Core.Path.{_≡_}
-use Prim.Native.Nat.{_≤_, _-_}
+-- `listing::print_scans` goes from event to event, and ends: k rises to the count.
+use mathlib.Core.Path.{_≡_, sym, ap, _∙_}
+use Prim.Native.Nat.{ℕ, _+_, _-_, _≤_, _<_}
+use native.Mathlib.Numerals.{add-one}
 use native.Mathlib.Omega.{arith}
-use lib.ListN.{length}
+use mathlib.Core.List.{List}
+use Rattle.refusal.specs.Outcome.{Outcome, ok, andThen}
+use Rattle.refusal.specs.Number.{toldCount}
+use Rattle.tray_header.specs.Header.{readTrayHeader, told}
+use Rattle.tray_header.specs.declared.TrayHeader.{TrayHeader}
+use Rattle.tray.specs.Scan.{eventOf, nextEvent}
+use Rattle.tray.proofs.Walk.{place-next}
 use borrow.Author.Needs.{needs}
 use Rattle.listing.proofs.print_scans.Statement.{statement}
 use Rattle.listing.proofs.print_scans.Tie as tie
 
+-- what was found is event k, as long as there is a scan k
 abbrev Inv-loop : tie.InvT-loop
-Inv-loop tray out₀ count at₀ k₀ out at k = (k ≤ count) × (length out ≡ 57344)
+Inv-loop tray count found₀ k₀ found k = (k ≤ count) × (k < count → toldCount found ≡ eventOf k tray)
 
 abbrev μ-loop : tie.MeasureT-loop
-μ-loop tray out₀ count at₀ k₀ out at k = count - k
+μ-loop tray count found₀ k₀ found k = count - k
 
-listed-scans-requires : tie.Need-listed-scans-requires Inv-loop μ-loop
-listed-scans-requires c κs = search needs
-
-event-of-requires : tie.Need-event-of-requires Inv-loop μ-loop
-event-of-requires c κs = search needs
+further : (s : List ℕ) (h : TrayHeader) → ok h ≡ readTrayHeader s → (k : ℕ) {o p : Outcome ℕ} → o ≡ eventOf k s → p ≡ andThen o (λ at. nextEvent at s)
+    → k + 1 < h .scans → p ≡ eventOf (k + 1) s
+further s h e k f g l = g ∙ ap (λ w. andThen w (λ at. nextEvent at s)) f ∙ sym (rw add-one (place-next s e k (omega arith)))
 
 loop-holds : tie.Need-loop-holds Inv-loop μ-loop
-loop-holds c = search needs
+loop-holds c = (omega arith, λ _. c .event-of .ensures)
 
-slice-aggregate-list-scan : tie.Need-slice-aggregate-list-scan Inv-loop μ-loop
-slice-aggregate-list-scan c = search needs
-
-list-scan-requires : tie.Need-list-scan-requires Inv-loop μ-loop
-list-scan-requires c κs = search needs
-
-print-requires : tie.Need-print-requires Inv-loop μ-loop
-print-requires c κs = search needs
-
-next-event-requires : tie.Need-next-event-requires Inv-loop μ-loop
-next-event-requires c κs = search needs
-
-add-k : tie.Need-add-k Inv-loop μ-loop
-add-k c = omega (arith, c .before .before .before .before .before .before .loop-test .taken)
-
-loop-less : tie.Need-loop-less Inv-loop μ-loop
-loop-less c = search needs
+print-scan-requires : tie.Need-print-scan-requires Inv-loop μ-loop
+print-scan-requires c κs = c .before .loop .inv .1 (c .loop-test .taken)
 
 loop-again : tie.Need-loop-again Inv-loop μ-loop
-loop-again c = search needs
-
-returns : tie.Need-returns Inv-loop μ-loop
-returns c = search needs
+loop-again c =
+    let l = c .before .before in
+    let h = l .before .before .before .before in (
+      omega arith,
+      further _ _ (sym (ap told (h .h .given .1)) ∙ h .before .before .read-tray-header .ensures) (l .before .loop .k) (l .before .loop .inv .1 (l .loop-test .taken)) (c .event-behind .ensures),
+    )
 
 pub print-scans-spec : {M : Type 1} → statement M
 print-scans-spec =
@@ -53,14 +45,15 @@ print-scans-spec =
     (tie.spec
     Inv-loop
     μ-loop
-    listed-scans-requires
-    event-of-requires
+    (search needs)
+    (search needs)
+    (search needs)
+    (search needs)
+    (search needs)
     loop-holds
-    slice-aggregate-list-scan
-    list-scan-requires
-    print-requires
-    next-event-requires
-    add-k
-    loop-less
+    print-scan-requires
+    (search needs)
+    (search needs)
+    (search needs)
     loop-again
-    returns)
+    (search needs))
