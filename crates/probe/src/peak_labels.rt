@@ -155,7 +155,7 @@ pub(crate) fn packet_noise(
 fn label(
     run: &[u8],
     packet: PacketAnswer,
-    masses: &[u64],
+    masses: &[u64; 64],
     flags: &mut [u8],
     noises: &mut [u32],
     baselines: &mut [u32],
