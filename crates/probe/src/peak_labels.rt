@@ -1,5 +1,6 @@
 // Labels: the crates `narrow`, `noise` and `packet_noise`.
 ghost use Prim.Native.Nat.{_≤_};
+ghost use lib.ListN.{length};
 use crate::answer;
 use crate::request;
 use crate::request::LENT;
@@ -155,11 +156,13 @@ pub(crate) fn packet_noise(
 fn label(
     run: &[u8],
     packet: PacketAnswer,
-    masses: &[u64; 64],
+    masses: &[u64],
     flags: &mut [u8],
     noises: &mut [u32],
     baselines: &mut [u32],
-) -> CountAnswer {
+) -> CountAnswer
+    requires { ⌜ 64 ≤ length (now masses) ⌝ }
+{
     match packet {
         PacketAnswer::Refused(refusal) => CountAnswer::Refused(refusal),
         PacketAnswer::Packet(p) => {
