@@ -1,12 +1,14 @@
 -- What a read answers, by the test that decides it; and each answer is known by what it tells.
-use mathlib.Core.Path.{_≡_, refl}
+use mathlib.Core.Path.{_≡_, refl, sym, _∙_}
 use mathlib.Core.Logic.{⊎-elim}
 use mathlib.Core.List.{List}
 use Prim.Native.Nat.{ℕ, _+_, _*_, _≤_, _<_}
 use borrow.Author.Tests.{le-leb, lt-leb}
 use Rattle.lists.proofs.Cases.{leb-cases}
-use Rattle.parser.specs.Parser.{bytes, le, left, parse, word, skip, checkCount}
-use Rattle.binary_reader.specs.Read.{told, toldThere, reads, behind}
+use Rattle.parser.specs.Parser.{Parser, bytes, le, left, parse, word, skip, checkCount}
+use Rattle.binary_reader.specs.Read.{told, toldThere, reads, behind, Moves}
+use Rattle.refusal.specs.Outcome.{Outcome}
+use Rattle.binary_reader.specs.declared.BinaryReader.{BinaryReader}
 use Rattle.binary_reader.specs.declared.WordAnswer.{WordAnswer}
 use Rattle.binary_reader.specs.declared.WordAnswer.the-variants as number
 use Rattle.binary_reader.specs.declared.BytesAnswer.{BytesAnswer}
@@ -62,3 +64,7 @@ there-told-one there.There there.There h = refl
 there-told-one there.There there.Short h = cc
 there-told-one there.Short there.There h = cc
 there-told-one there.Short there.Short h = refl
+
+-- a reader that was lent: one place over the same bytes. With the answer's own law above, one answer too
+pub moves-one : {A : Type 0} {p : Parser A} {r x y : BinaryReader} {a b : Outcome A} → Moves p r a x → Moves p r b y → (a ≡ b) × (x .bytes ≡ y .bytes) × (x .place ≡ y .place)
+moves-one m n = (m .answered ∙ sym (n .answered), m .bytes ∙ sym (n .bytes), m .place ∙ sym (n .place))

@@ -89,7 +89,7 @@ pub fn skip_at(run: &[u8], at: u64, n: u64) -> BytesAnswer
 }
 
 // The place behind n bytes; a place at which they are missing stays.
-pub fn place_behind(run: &[u8], at: u64, n: u64) -> u64
+fn place_behind(run: &[u8], at: u64, n: u64) -> u64
     ensures { λ r. ⌜ r ≡ behind at (parse (skip n) (now (run .entry)) at) ⌝ }
 {
     if n <= remaining(run, at) {
@@ -98,7 +98,7 @@ pub fn place_behind(run: &[u8], at: u64, n: u64) -> u64
     at
 }
 
-pub fn word_behind(run: &[u8], at: u64, size: Width) -> u64
+fn word_behind(run: &[u8], at: u64, size: Width) -> u64
     ensures { λ r. ⌜ r ≡ behind at (parse (word (width size)) (now (run .entry)) at) ⌝ }
 {
     place_behind(run, at, bytes_of(size))

@@ -10,6 +10,8 @@ use lib.ListN.{length, length-map}
 use borrow.Author.Tests.{leb-true, le-leb, lt-leb}
 use Rattle.refusal.specs.Outcome.{Outcome, ok, refused}
 use Rattle.refusal.proofs.Outcomes.{refused-of}
+use Rattle.refusal.proofs.Told.{count-one}
+use Rattle.refusal.specs.declared.CountAnswer.{CountAnswer}
 use Rattle.refusal.specs.declared.CountAnswer.the-variants.{Count, Refused}
 use Rattle.refusal.specs.declared.Refusal.the-variants.{NoRoom}
 use Rattle.lists.specs.Written.{over, fitting}
@@ -52,6 +54,14 @@ module _ {A B L : Type 0} {answer : A → B} {write : A → L → L} {o : Outcom
   pub stayed : {n : ℕ} {carries : List ℕ} {ys : L} → Left answer write o xs (refused n carries) ys → (refused n carries ≡ o) × (ys ≡ xs)
   unfolding after
   stayed {n} {carries} l = let e = refused-of answer o (l .answered) in (e, l .stands ∙ rw (← e))
+
+-- ---- a contract leaves one answer and one content of the slices, if the answer is known by what it tells
+pub left-one : {R A B L : Type 0} (told : R → Outcome B) → ((r q : R) → told r ≡ told q → r ≡ q) → (answer : A → B) (write : A → L → L) (o : Outcome A) (xs : L)
+    → {r q : R} {ys zs : L} → Left answer write o xs (told r) ys → Left answer write o xs (told q) zs → (r ≡ q) × (ys ≡ zs)
+left-one told one answer write o xs {r} {q} l m = (one r q (l .answered ∙ sym (m .answered)), l .stands ∙ sym (m .stands))
+
+pub list-one : {A : Type 0} {vs xs : List A} {r q : CountAnswer} {ys zs : List A} → LeftList vs xs r ys → LeftList vs xs q zs → (r ≡ q) × (ys ≡ zs)
+list-one {A} {vs} {xs} {r} {q} l m = (count-one r q (l .answered ∙ sym (m .answered)), l .stands ∙ sym (m .stands))
 
 -- ---- the room test: each count is within its slice
 abbrev pub Within : List (ℕ × ℕ) → Type 0

@@ -3,7 +3,7 @@ use mathlib.Core.Path.{_≡_, refl, sym, ap, _∙_}
 use mathlib.Core.Logic.{⊎-elim}
 use Prim.Native.Nat.{ℕ, _+_, _*_, _-_, _≤_, _<_, min}
 use native.Mathlib.Omega.{arith}
-use mathlib.Core.List.{List, [], _∷_}
+use mathlib.Core.List.{List, [], _∷_, _++_}
 use lib.Ieee.{Float}
 use lib.ListN.{length, take, drop, length-take, length-drop, drop-of-length-le}
 use lib.Seq.{take-all, take-nil}
@@ -45,9 +45,15 @@ part-is s at n start end e f =
     (le-or-lt at (length s)))
 
 -- A reader's promise says that the nodes at the places which it answers are those that it read (`nodes` of its outcome's value).
--- So noise by an answered packet is noise by that packet's nodes, and labels likewise
+-- So noise by an answered packet is noise by that packet's nodes
 pub packet-nodes : {A : Type 0} (nodes : A → List ℕ) (o : Outcome A) (s : List ℕ) (p : ScanDataPacket) → onOk (nodesAt s) (told (answer.Packet p)) ≡ onOk nodes o
     → (a : A) × (ok a ≡ o) × (nodesAt s p ≡ nodes a) × ((mz : Float) → noiseAt mz (nodesOf (nodesAt s p)) ≡ noiseAt mz (nodesOf (nodes a)))
 packet-nodes nodes o s p h =
     let m = made-of nodes o h in
     (m .value, m .is, m .made, λ mz. ap (λ (bs : List ℕ). noiseAt mz (nodesOf bs)) (m .made))
+
+-- A packet that was answered on s is also the answer on s ++ t, with the same outcome o (`packet-longer`, `skip-profile-longer`). Its nodes
+-- are the same there, and so are noise and labels, which go by them alone
+pub longer-nodes : {A : Type 0} (nodes : A → List ℕ) (o : Outcome A) (s t : List ℕ) (p : ScanDataPacket) → onOk (nodesAt s) (told (answer.Packet p)) ≡ onOk nodes o
+    → onOk (nodesAt (s ++ t)) (told (answer.Packet p)) ≡ onOk nodes o → nodesAt (s ++ t) p ≡ nodesAt s p
+longer-nodes nodes o s t p h k = let e : ok (nodesAt (s ++ t) p) ≡ ok (nodesAt s p) = k ∙ sym h in cc

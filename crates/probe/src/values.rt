@@ -9,7 +9,6 @@ use binary_reader::WordAnswer;
 use binary_reader::check_count_at;
 use binary_reader::read_f64_le;
 use binary_reader::read_u32_le;
-use binary_reader::word_behind;
 
 // The number of one, two, four or eight bytes at a place, through a reader or by the functions of bytes.rs.
 fn word_at(run: &[u8], place: u64, size: u64) -> WordAnswer {
@@ -50,7 +49,7 @@ fn put_counted(out: &mut [u8], n: usize, run: &[u8], place: u64, size: u64) -> u
     let WordAnswer::Value(count) = read_u32_le(run, place) else {
         return answer::put(out, n, b"refused 1");
     };
-    let behind = word_behind(run, place, Width::Four);
+    let behind = reader::saturating_add(place, 4);
     match check_count_at(run, behind, count, size) {
         BytesAnswer::Short => answer::put(out, n, b"refused 1"),
         BytesAnswer::There => {
