@@ -24,22 +24,22 @@ abbrev pub reads : {A : Type 0} → Parsed A → Outcome A
 reads short = refused 1 []
 reads (parsed a next) = ok a
 
--- the place behind what was read at `at`; where it ran out the place stays
-abbrev pub behind : {A : Type 0} → ℕ → Parsed A → ℕ
-behind at short = at
-behind at (parsed a next) = next
+-- the place after what was read at `at`; where it ran out the place stays
+abbrev pub placeAfter : {A : Type 0} → ℕ → Parsed A → ℕ
+placeAfter at short = at
+placeAfter at (parsed a next) = next
 
 -- both answers in document 01's terms
-abbrev pub told : WordAnswer → Outcome ℕ
-told (number.Value n) = ok n
-told number.Short = refused 1 []
+abbrev pub outcomeOf : WordAnswer → Outcome ℕ
+outcomeOf (number.Value n) = ok n
+outcomeOf number.Short = refused 1 []
 
-abbrev pub toldThere : BytesAnswer → Outcome (Unit {0})
-toldThere there.There = ok tt
-toldThere there.Short = refused 1 []
+abbrev pub outcomeOfThere : BytesAnswer → Outcome (Unit {0})
+outcomeOfThere there.There = ok tt
+outcomeOfThere there.Short = refused 1 []
 
--- a call that reads by p was lent the reader r: it tells `told`, and leaves r behind what was read, over the same bytes
-pub record Moves {A : Type 0} (p : Parser A) (r : BinaryReader) (told : Outcome A) (r′ : BinaryReader) : Type 0 where
-  pub answered : told ≡ reads (parse p (now (r .bytes)) (r .place))
+-- a call that reads by p was lent the reader r: it tells `outcomeOf`, and leaves r after what was read, over the same bytes
+pub record Moves {A : Type 0} (p : Parser A) (r : BinaryReader) (outcomeOf : Outcome A) (r′ : BinaryReader) : Type 0 where
+  pub answered : outcomeOf ≡ reads (parse p (now (r .bytes)) (r .place))
   pub bytes : r′ .bytes ≡ r .bytes
-  pub place : r′ .place ≡ behind (r .place) (parse p (now (r .bytes)) (r .place))
+  pub place : r′ .place ≡ placeAfter (r .place) (parse p (now (r .bytes)) (r .place))

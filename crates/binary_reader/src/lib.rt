@@ -4,8 +4,8 @@
 // does not go through a struct that holds a slice by itself, so their proofs are written by hand, and the decoder's own functions
 // take the slice and the place.
 ghost use mathlib.Core.Path.{_≡_};
-ghost use Rattle.parser.specs.Parser.{bytes, le, parse, word, skip, checkCount};
-ghost use Rattle.binary_reader.specs.Read.{width, told, toldThere, reads, behind, Moves};
+ghost use Rattle.parser.specs.Parser.{bytes, littleEndian, parse, word, skip, checkCount, wordAt};
+ghost use Rattle.binary_reader.specs.Read.{width, outcomeOf, outcomeOfThere, reads, placeAfter, Moves};
 use reader::remaining;
 use reader::u8_at;
 use reader::u16_at;
@@ -43,9 +43,9 @@ fn bytes_of(size: Width) -> u64
     }
 }
 
-// The number at a place, where a byte behind the end counts as 0.
+// The number at a place, where a byte after the end counts as 0.
 fn number_at(run: &[u8], at: u64, size: Width) -> u64
-    ensures { λ r. ⌜ r ≡ le (bytes (now (run .entry)) at (width size)) ⌝ }
+    ensures { λ r. ⌜ r ≡ wordAt (now (run .entry)) at (width size) ⌝ }
 {
     match size {
         Width::One => u8_at(run, at) as u64,
@@ -57,7 +57,7 @@ fn number_at(run: &[u8], at: u64, size: Width) -> u64
 
 // The number of so many bytes at a place of a run.
 pub fn read_at(run: &[u8], at: u64, size: Width) -> WordAnswer
-    ensures { λ r. ⌜ told r ≡ reads (parse (word (width size)) (now (run .entry)) at) ⌝ }
+    ensures { λ r. ⌜ outcomeOf r ≡ reads (parse (word (width size)) (now (run .entry)) at) ⌝ }
 {
     if bytes_of(size) <= remaining(run, at) {
         return WordAnswer::Value(number_at(run, at, size));
@@ -67,20 +67,20 @@ pub fn read_at(run: &[u8], at: u64, size: Width) -> WordAnswer
 
 // `read_u32_le` and `read_f64_le` of bytes.rs; an f64 is handed out by its bits.
 pub fn read_u32_le(data: &[u8], offset: u64) -> WordAnswer
-    ensures { λ r. ⌜ told r ≡ reads (parse (word 4) (now («data» .entry)) offset) ⌝ }
+    ensures { λ r. ⌜ outcomeOf r ≡ reads (parse (word 4) (now («data» .entry)) offset) ⌝ }
 {
     read_at(data, offset, Width::Four)
 }
 
 pub fn read_f64_le(data: &[u8], offset: u64) -> WordAnswer
-    ensures { λ r. ⌜ told r ≡ reads (parse (word 8) (now («data» .entry)) offset) ⌝ }
+    ensures { λ r. ⌜ outcomeOf r ≡ reads (parse (word 8) (now («data» .entry)) offset) ⌝ }
 {
     read_at(data, offset, Width::Eight)
 }
 
 // Whether n bytes can be passed over at a place.
 pub fn skip_at(run: &[u8], at: u64, n: u64) -> BytesAnswer
-    ensures { λ r. ⌜ toldThere r ≡ reads (parse (skip n) (now (run .entry)) at) ⌝ }
+    ensures { λ r. ⌜ outcomeOfThere r ≡ reads (parse (skip n) (now (run .entry)) at) ⌝ }
 {
     if n <= remaining(run, at) {
         return BytesAnswer::There;
@@ -88,9 +88,9 @@ pub fn skip_at(run: &[u8], at: u64, n: u64) -> BytesAnswer
     BytesAnswer::Short
 }
 
-// The place behind n bytes; a place at which they are missing stays.
-fn place_behind(run: &[u8], at: u64, n: u64) -> u64
-    ensures { λ r. ⌜ r ≡ behind at (parse (skip n) (now (run .entry)) at) ⌝ }
+// The place after n bytes; a place at which they are missing stays.
+fn place_after(run: &[u8], at: u64, n: u64) -> u64
+    ensures { λ r. ⌜ r ≡ placeAfter at (parse (skip n) (now (run .entry)) at) ⌝ }
 {
     if n <= remaining(run, at) {
         return at + n;
@@ -98,15 +98,15 @@ fn place_behind(run: &[u8], at: u64, n: u64) -> u64
     at
 }
 
-fn word_behind(run: &[u8], at: u64, size: Width) -> u64
-    ensures { λ r. ⌜ r ≡ behind at (parse (word (width size)) (now (run .entry)) at) ⌝ }
+fn word_after(run: &[u8], at: u64, size: Width) -> u64
+    ensures { λ r. ⌜ r ≡ placeAfter at (parse (word (width size)) (now (run .entry)) at) ⌝ }
 {
-    place_behind(run, at, bytes_of(size))
+    place_after(run, at, bytes_of(size))
 }
 
 // Whether n records of so many bytes can stand at a place. Their product may pass 64 bits, so it is not formed.
 pub fn check_count_at(run: &[u8], at: u64, n: u64, size: u64) -> BytesAnswer
-    ensures { λ r. ⌜ toldThere r ≡ reads (parse (checkCount n size) (now (run .entry)) at) ⌝ }
+    ensures { λ r. ⌜ outcomeOfThere r ≡ reads (parse (checkCount n size) (now (run .entry)) at) ⌝ }
 {
     if n == 0 {
         return BytesAnswer::There;
@@ -135,21 +135,21 @@ pub fn position<'a>(r: BinaryReader<'a>) -> u64
     r.place
 }
 
-// The number at the reader's place, and the reader goes on behind it. Where it ran out the reader stays.
+// The number at the reader's place, and the reader goes on after it. Where it ran out the reader stays.
 pub fn read_word<'s, 'a>(r: &'s mut BinaryReader<'a>, size: Width) -> WordAnswer
-    ensures { λ w. ⌜ Moves (word (width size)) (now (r .entry)) (told w) (now (r .exit)) ⌝ }
+    ensures { λ w. ⌜ Moves (word (width size)) (now (r .entry)) (outcomeOf w) (now (r .exit)) ⌝ }
 {
-    let next = word_behind(r.bytes, r.place, size);
+    let next = word_after(r.bytes, r.place, size);
     let answer = read_at(r.bytes, r.place, size);
     r.place = next;
     answer
 }
 
-// The reader goes on behind n bytes.
+// The reader goes on after n bytes.
 pub fn skip<'s, 'a>(r: &'s mut BinaryReader<'a>, n: u64) -> BytesAnswer
-    ensures { λ w. ⌜ Moves (skip n) (now (r .entry)) (toldThere w) (now (r .exit)) ⌝ }
+    ensures { λ w. ⌜ Moves (skip n) (now (r .entry)) (outcomeOfThere w) (now (r .exit)) ⌝ }
 {
-    let next = place_behind(r.bytes, r.place, n);
+    let next = place_after(r.bytes, r.place, n);
     let answer = skip_at(r.bytes, r.place, n);
     r.place = next;
     answer
@@ -157,14 +157,14 @@ pub fn skip<'s, 'a>(r: &'s mut BinaryReader<'a>, n: u64) -> BytesAnswer
 
 // Whether n records of so many bytes are left.
 pub fn check_count<'a>(r: BinaryReader<'a>, n: u64, size: u64) -> BytesAnswer
-    ensures { λ w. ⌜ toldThere w ≡ reads (parse (checkCount n size) (now (r .entry .bytes)) (r .entry .place)) ⌝ }
+    ensures { λ w. ⌜ outcomeOfThere w ≡ reads (parse (checkCount n size) (now (r .entry .bytes)) (r .entry .place)) ⌝ }
 {
     check_count_at(r.bytes, r.place, n, size)
 }
 
 // A number through a reader. Callers need no proof by hand: the parameters are plain.
 pub fn word_at(run: &[u8], place: u64, size: Width) -> WordAnswer
-    ensures { λ w. ⌜ told w ≡ reads (parse (word (width size)) (now (run .entry)) place) ⌝ }
+    ensures { λ w. ⌜ outcomeOf w ≡ reads (parse (word (width size)) (now (run .entry)) place) ⌝ }
 {
     let mut r = new(run, place);
     read_word(&mut r, size)

@@ -3,12 +3,12 @@
 ghost use mathlib.Core.Path.{_≡_};
 ghost use Prim.Native.Nat.{_≤_};
 ghost use lib.ListN.{length};
-ghost use Rattle.lists.specs.Left.{handOutPairs, LeftPairs};
+ghost use Rattle.lists.specs.Left.{pairsIfFit, LeftPairs};
 ghost use Rattle.lists.specs.Written.{each, over};
 ghost use Rattle.calibration.specs.Convert.{series, freqToMz, intensityAt, chunkPairs};
-ghost use Rattle.calibration.specs.Layout.{layoutOf, mzBy, axisOf, mzOn};
-use floats::f64_of_bits;
-use floats::widened;
+ghost use Rattle.calibration.specs.Internal.{layoutOf, mzBy, axisOf, mzOn};
+use float_bits::f64_of_bits;
+use float_bits::widened;
 use lists::holds;
 use reader::saturating_add;
 use reader::u32_at;
@@ -148,7 +148,7 @@ pub fn write_chunk(
     mz: &mut [f64],
     intensity: &mut [f64],
 ) -> CountAnswer
-    ensures { λ r. ⌜ LeftPairs (λ m i. handOutPairs m i (chunkPairs bins «first_bin» fudge (now (coefficients .entry)) (now (run .entry)) at n)) (now (mz .entry)) (now (intensity .entry)) r (now (mz .exit)) (now (intensity .exit)) ⌝ }
+    ensures { λ r. ⌜ LeftPairs (λ m i. pairsIfFit m i (chunkPairs bins «first_bin» fudge (now (coefficients .entry)) (now (run .entry)) at n)) (now (mz .entry)) (now (intensity .entry)) r (now (mz .exit)) (now (intensity .exit)) ⌝ }
 {
     if holds(n, mz.len() as u64, holds(n, intensity.len() as u64, true)) {
         write_pairs(

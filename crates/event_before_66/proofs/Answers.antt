@@ -10,16 +10,16 @@ use borrow.Author.Tests.{le-leb, lt-leb}
 use Rattle.refusal.specs.Outcome.{ok, refused, ranOut}
 use Rattle.lists.specs.Written.{each}
 use Rattle.lists.proofs.Cases.{le-or-lt}
-use Rattle.parser.specs.Parser.{Parser, done, short, parsed, within, parse, bytes, le, left, _>>=_}
+use Rattle.parser.specs.Parser.{Parser, done, short, parsed, within, parse, bytes, littleEndian, left, _>>=_}
 use Rattle.parser.specs.Call.{outcome, partAt}
 use Rattle.parser.proofs.Fixed.{parse-stage}
 use Rattle.parser.proofs.Answered.{ran-out}
-use Rattle.preamble.specs.Size.{sizeForVersion}
-use Rattle.scan_event.specs.Event.{Event}
-use Rattle.scan_event.specs.Places.{eventAt as found}
-use Rattle.scan_event.specs.declared.Places.{Places}
+use Rattle.event_preamble.specs.Size.{sizeForVersion}
+use Rattle.event_record.specs.Event.{Event}
+use Rattle.event_record.specs.Places.{eventAt as found}
+use Rattle.event_record.specs.declared.Places.{Places}
 use Rattle.event_before_66.specs.Layout.{head, Middle, middle, tail, event, before66, sizesOf, findSizes}
-use Rattle.event_before_66.specs.Places.{reactionsAt, coefficientsAt, end, eventAt, Placed}
+use Rattle.event_before_66.specs.Internal.{reactionsAt, coefficientsAt, end, eventAt, Placed}
 use Rattle.event_before_66.specs.declared.Sizes.{Sizes}
 use Rattle.event_before_66.proofs.Lengths.{preamble-length, reactions-length, coefficients-length}
 use Rattle.event_before_66.proofs.Stages.{head-sized, middle-sized, tail-sized, head-value, middle-value, tail-value}
@@ -35,16 +35,16 @@ rest h = middle (h .1) >>= more (h .0)
 middleAt : List ℕ → ℕ → ℕ → Middle
 middleAt s n at =
     record {
-      reactions = each (λ i. (le (bytes s (at + i * 32) 8), le (bytes s (at + 16 + i * 32) 8))) n;
-      low = le (bytes s (at + n * 32 + 4) 8);
-      high = le (bytes s (at + n * 32 + 4 + 8) 8);
-      count = le (bytes s (at + n * 32 + 20) 4);
+      reactions = each (λ i. (littleEndian (bytes s (at + i * 32) 8), littleEndian (bytes s (at + 16 + i * 32) 8))) n;
+      low = littleEndian (bytes s (at + n * 32 + 4) 8);
+      high = littleEndian (bytes s (at + n * 32 + 4 + 8) 8);
+      count = littleEndian (bytes s (at + n * 32 + 20) 4);
     }
 
 module _ (s : List ℕ) where
   parse-head : (version at : ℕ) → let size = sizeForVersion version in
       parse (before66 version) s at
-      ≡ within (leb (size + 4) (left s at)) (parse (rest (bytes s at size, le (bytes s (at + size) 4))) s (at + (size + 4)))
+      ≡ within (leb (size + 4) (left s at)) (parse (rest (bytes s at size, littleEndian (bytes s (at + size) 4))) s (at + (size + 4)))
   unfolding before66 rest more
   parse-head version at = parse-stage (sizeForVersion version + 4) (head version) rest (head-sized version) s at ∙ rw (head-value s version at)
 
@@ -55,7 +55,7 @@ module _ (s : List ℕ) where
 
   parse-tail : (preamble : List ℕ) (m : Middle) (at : ℕ) → let n = m .count in
       parse (more preamble m) s at
-      ≡ within (leb (n * 8 + 8) (left s at)) (parsed (event preamble m (each (λ i. le (bytes s (at + i * 8) 8)) n)) (at + (n * 8 + 8)))
+      ≡ within (leb (n * 8 + 8) (left s at)) (parsed (event preamble m (each (λ i. littleEndian (bytes s (at + i * 8) 8)) n)) (at + (n * 8 + 8)))
   unfolding more parse
   parse-tail preamble m at =
       parse-stage (m .count * 8 + 8) (tail (m .count)) (λ coefficients. done (event preamble m coefficients)) (tail-sized (m .count)) s at
@@ -66,14 +66,14 @@ module _ (version : ℕ) (s : List ℕ) (at : ℕ) where
   pub parse-short-head : left s at < sizeForVersion version + 4 → parse (before66 version) s at ≡ short
   parse-short-head t = rw (parse-head s version at, lt-leb _ _ t)
 
-  module _ (z : Sizes) (size : z .preamble ≡ sizeForVersion version) (t : z .preamble + 4 ≤ left s at) (reactions : z .reactions ≡ le (bytes s (at + z .preamble) 4)) where
+  module _ (z : Sizes) (size : z .preamble ≡ sizeForVersion version) (t : z .preamble + 4 ≤ left s at) (reactions : z .reactions ≡ littleEndian (bytes s (at + z .preamble) 4)) where
     to-middle : parse (before66 version) s at ≡ parse (rest (bytes s at (z .preamble), z .reactions)) s (reactionsAt at z)
     to-middle = parse-head s version at ∙ rw (← size, le-leb _ _ t, ← reactions)
 
     pub parse-short-middle : left s (reactionsAt at z) < z .reactions * 32 + 24 → parse (before66 version) s at ≡ short
     parse-short-middle u = rw (to-middle, parse-middle s (bytes s at (z .preamble)) (z .reactions) (reactionsAt at z), lt-leb _ _ u)
 
-    module _ (u : z .reactions * 32 + 24 ≤ left s (reactionsAt at z)) (coefficients : z .coefficients ≡ le (bytes s (reactionsAt at z + z .reactions * 32 + 20) 4)) where
+    module _ (u : z .reactions * 32 + 24 ≤ left s (reactionsAt at z)) (coefficients : z .coefficients ≡ littleEndian (bytes s (reactionsAt at z + z .reactions * 32 + 20) 4)) where
       to-tail : parse (before66 version) s at
           ≡ parse (more (bytes s at (z .preamble)) (middleAt s (z .reactions) (reactionsAt at z))) s (coefficientsAt at z)
       to-tail = to-middle ∙ rw (parse-middle s (bytes s at (z .preamble)) (z .reactions) (reactionsAt at z), le-leb _ _ u)
@@ -99,12 +99,12 @@ module _ (version : ℕ) (s : List ℕ) (at : ℕ) where
   unfolding findSizes outcome
   short-head t = rw (parse-short-head version s at t)
 
-  module _ (z : Sizes) (size : z .preamble ≡ sizeForVersion version) (t : z .preamble + 4 ≤ left s at) (reactions : z .reactions ≡ le (bytes s (at + z .preamble) 4)) where
+  module _ (z : Sizes) (size : z .preamble ≡ sizeForVersion version) (t : z .preamble + 4 ≤ left s at) (reactions : z .reactions ≡ littleEndian (bytes s (at + z .preamble) 4)) where
     pub short-middle : left s (reactionsAt at z) < z .reactions * 32 + 24 → ranOut 3 ≡ findSizes version at s
     unfolding findSizes outcome
     short-middle u = rw (parse-short-middle version s at z size t reactions u)
 
-    module _ (u : z .reactions * 32 + 24 ≤ left s (reactionsAt at z)) (coefficients : z .coefficients ≡ le (bytes s (reactionsAt at z + z .reactions * 32 + 20) 4)) where
+    module _ (u : z .reactions * 32 + 24 ≤ left s (reactionsAt at z)) (coefficients : z .coefficients ≡ littleEndian (bytes s (reactionsAt at z + z .reactions * 32 + 20) 4)) where
       pub short-tail : left s (coefficientsAt at z) < z .coefficients * 8 + 8 → ranOut 3 ≡ findSizes version at s
       unfolding findSizes outcome
       short-tail v = rw (parse-short-tail version s at z size t reactions u coefficients v)
@@ -142,8 +142,8 @@ stands version s at {z} e =
     w =
         record {
           preamble = sizeForVersion version;
-          reactions = le (bytes s (at + sizeForVersion version) 4);
-          coefficients = le (bytes s (at + (sizeForVersion version + 4) + le (bytes s (at + sizeForVersion version) 4) * 32 + 20) 4);
+          reactions = littleEndian (bytes s (at + sizeForVersion version) 4);
+          coefficients = littleEndian (bytes s (at + (sizeForVersion version + 4) + littleEndian (bytes s (at + sizeForVersion version) 4) * 32 + 20) 4);
         }
 
     never : ok z ≡ ranOut 3 → Stands version s at z

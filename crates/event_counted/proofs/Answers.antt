@@ -6,15 +6,15 @@ use mathlib.Core.Bool.{Bool, true, false, cond}
 use mathlib.Core.List.{List, []}
 use borrow.Author.Tests.{le-leb, lt-leb}
 use Rattle.refusal.specs.Outcome.{Outcome, ok, refused, ranOut, onOk, andThen}
-use Rattle.parser.specs.Parser.{Parsed, short, parsed, parse, bytes, le, left}
+use Rattle.parser.specs.Parser.{Parsed, short, parsed, parse, bytes, littleEndian, left}
 use Rattle.parser.specs.Call.{onward, outcome}
-use Rattle.preamble.specs.Settings.{isPrimary}
-use Rattle.scan_event.specs.Event.{Event, handOut}
-use Rattle.scan_event.specs.Places.{eventIn, toldPlaces}
-use Rattle.scan_event.specs.declared.Lent.{Lent}
-use Rattle.scan_event.specs.declared.Lists.{Lists}
-use Rattle.scan_event.specs.declared.PlacesAnswer.the-variants.{At}
-use Rattle.scan_event.proofs.HandOut.{thenHandOut}
+use Rattle.event_preamble.specs.Settings.{isPrimary}
+use Rattle.event_record.specs.Event.{Event, handOut}
+use Rattle.event_record.specs.Places.{eventIn, outcomeOfPlaces}
+use Rattle.event_record.specs.declared.Lent.{Lent}
+use Rattle.event_record.specs.declared.Lists.{Lists}
+use Rattle.event_record.specs.declared.PlacesAnswer.the-variants.{At}
+use Rattle.event_record.proofs.HandOut.{thenHandOut}
 use Rattle.event_counted.specs.Layout.{judgeRecords, kept, countedEvent, bodyEvent, counted, findCounted, readCounted}
 
 module _ (size : ℕ) (s : List ℕ) (at : ℕ) where
@@ -38,7 +38,7 @@ module _ (size : ℕ) (s : List ℕ) (at : ℕ) where
         wrong h = rw (← whole, ← hp, ← hb, ← h)
 
         pub found : (j : Lists) → ok (eventIn pre body j) ≡ bodyEvent (at + 136) pre body
-            → toldPlaces s (At (record { preamble = at; «preamble_len» = 136; body = at + 136; «body_len» = size; lists = j; next = at + 136 + size })) ≡ findCounted size at s
+            → outcomeOfPlaces s (At (record { preamble = at; «preamble_len» = 136; body = at + 136; «body_len» = size; lists = j; next = at + 136 + size })) ≡ findCounted size at s
         found j h = rw (← whole, ← hp, ← hb, ← h)
 
 -- the reader is what was found, and then the room
@@ -60,12 +60,12 @@ module _ (start : ℕ) (preamble body : List ℕ) where
   unfolding bodyEvent
   no-count t = rw (lt-leb _ _ t)
 
-  by-records : 4 ≤ left body 0 → (count : ℕ) → count ≡ le (bytes body 0 4)
+  by-records : 4 ≤ left body 0 → (count : ℕ) → count ≡ littleEndian (bytes body 0 4)
       → andThen (judgeRecords start body (kept preamble count)) (λ _. ok (countedEvent preamble body count)) ≡ bodyEvent start preamble body
   unfolding bodyEvent
   by-records t count e = rw (le-leb _ _ t, ← e)
 
-  module _ (t : 4 ≤ left body 0) (count : ℕ) (e : count ≡ le (bytes body 0 4)) {n : ℕ} (k : n ≡ kept preamble count) where
+  module _ (t : 4 ≤ left body 0) (count : ℕ) (e : count ≡ littleEndian (bytes body 0 4)) {n : ℕ} (k : n ≡ kept preamble count) where
     pub wrong-record : {number : ℕ} {carries : List ℕ} → refused number carries ≡ judgeRecords start body n
         → refused number carries ≡ bodyEvent start preamble body
     wrong-record h = rw (← k, ← h) at (by-records t count e)

@@ -5,14 +5,14 @@ use mathlib.Core.List.{List, [], _∷_}
 use lib.Dec.{leb}
 use Rattle.refusal.specs.Outcome.{Outcome, ok, refused, onOk, andThen}
 use Rattle.lists.specs.Written.{each}
-use Rattle.parser.specs.Parser.{Parser, done, raw, bytes, le, left, _>>=_}
+use Rattle.parser.specs.Parser.{Parser, done, raw, bytes, littleEndian, left, _>>=_, wordAt}
 use Rattle.parser.specs.Call.{outcome, single}
-use Rattle.preamble.specs.Settings.{isPrimary}
-use Rattle.window.specs.Window.{windowAt, endBits}
-use Rattle.coefficient.specs.Coefficients.{coefficients}
-use Rattle.reaction.specs.Reactions.{bitsAt, acceptable}
-use Rattle.scan_event.specs.Event.{Event, Decoded, handOut}
-use Rattle.scan_event.specs.declared.Lent.{Lent}
+use Rattle.event_preamble.specs.Settings.{isPrimary}
+use Rattle.event_window.specs.Window.{windowAt, endBits}
+use Rattle.event_coefficients.specs.Coefficients.{coefficients}
+use Rattle.event_reactions.specs.Reactions.{acceptable}
+use Rattle.event_record.specs.Event.{Event, Decoded, handOut}
+use Rattle.event_record.specs.declared.Lent.{Lent}
 
 -- where record i of 56 bytes stands in the body: its precursor at 0, its energy at 16
 abbrev pub recordAt : ℕ → ℕ
@@ -22,9 +22,9 @@ recordAt i = 4 + i * 56
 abbrev pub judgeRecord : ℕ → List ℕ → ℕ → Outcome (Unit {0})
 judgeRecord start body i =
     cond (leb 8 (left body (recordAt i)))
-    (cond (acceptable (bitsAt body (recordAt i)))
+    (cond (acceptable (wordAt body (recordAt i) 8))
     (cond (leb 8 (left body (recordAt i + 16))) (ok tt) (refused 4 []))
-    (refused 3 ((start + recordAt i) ∷ bitsAt body (recordAt i) ∷ [])))
+    (refused 3 ((start + recordAt i) ∷ wordAt body (recordAt i) 8 ∷ [])))
     (refused 4 [])
 
 -- the first n records, one after the other
@@ -41,7 +41,7 @@ countedEvent preamble body count =
     let place = count * 56 + 8 in
     record {
       preamble = preamble;
-      reactions = each (λ i. (bitsAt body (recordAt i), bitsAt body (recordAt i + 16))) (kept preamble count);
+      reactions = each (λ i. (wordAt body (recordAt i) 8, wordAt body (recordAt i + 16) 8)) (kept preamble count);
       window = windowAt body place;
       low = endBits (windowAt body place) body place;
       high = endBits (windowAt body place) body (place + 8);
@@ -51,7 +51,7 @@ countedEvent preamble body count =
 -- the event of a body that starts at `start`
 unfoldable pub bodyEvent : ℕ → List ℕ → List ℕ → Outcome Event
 bodyEvent start preamble body =
-    let count = le (bytes body 0 4) in
+    let count = wordAt body 0 4 in
     cond (leb 4 (left body 0)) (andThen (judgeRecords start body (kept preamble count)) (λ _. ok (countedEvent preamble body count))) (refused 4 [])
 
 unfoldable pub counted : ℕ → Parser (List ℕ × List ℕ)
@@ -60,7 +60,7 @@ counted size = do
   body ← raw size
   done (preamble, body)
 
--- the event at a place, and the place behind it
+-- the event at a place, and the place after it
 unfoldable pub findCounted : ℕ → ℕ → List ℕ → Outcome (Event × ℕ)
 findCounted size at run = outcome (single 3 at (counted size) (λ parts next. onOk (λ e. (e, next)) (bodyEvent (at + 136) (parts .0) (parts .1)))) run
 

@@ -1,26 +1,26 @@
 // Scan events of version 66 whose body starts with its reaction count (`read_counted_v66` of scan_event.rs).
 ghost use mathlib.Core.Path.{_≡_};
 ghost use Prim.Native.Nat.{_+_, _^_, _<_};
-ghost use Rattle.scan_event.specs.Event.{slices, Answers};
-ghost use Rattle.scan_event.specs.Places.{eventIn, toldPlaces};
+ghost use Rattle.event_record.specs.Event.{slices, Answers};
+ghost use Rattle.event_record.specs.Places.{eventIn, outcomeOfPlaces};
 ghost use Rattle.event_counted.specs.Layout.{judgeRecord, judgeRecords, kept, countedEvent, bodyEvent, findCounted, readCounted};
-ghost use Rattle.event_counted.specs.Judged.{toldRecords, sourceOf, toldBody};
-use coefficient::coefficient_count;
-use preamble::is_primary;
-use reaction::Source;
-use reaction::acceptable;
+ghost use Rattle.event_counted.specs.Internal.{outcomeOfRecords, sourceOf, outcomeOfBody};
+use event_coefficients::coefficient_count;
+use event_preamble::is_primary;
+use event_reactions::Source;
+use event_reactions::acceptable;
+use event_record::EventAnswer;
+use event_record::Lists;
+use event_record::Places;
+use event_record::PlacesAnswer;
+use event_record::write_event;
+use event_window::end_bits;
+use event_window::plausible_window;
 use reader::remaining;
 use reader::u32_at;
 use reader::u64_at;
 use refusal::Part;
 use refusal::Refusal;
-use scan_event::EventAnswer;
-use scan_event::Lists;
-use scan_event::Places;
-use scan_event::PlacesAnswer;
-use scan_event::write_event;
-use window::end_bits;
-use window::plausible_window;
 
 // What was found of the reaction records.
 enum Records {
@@ -31,7 +31,7 @@ enum Records {
 // Record i of a body that starts at `start` of the run.
 fn judge_record(start: u64, body: &[u8], i: u64) -> Records
     requires { ⌜ (start < 2 ^ 63 + 2 ^ 32) × (i < 2 ^ 32) ⌝ }
-    ensures { λ r. ⌜ toldRecords r ≡ judgeRecord start (now (body .entry)) i ⌝ }
+    ensures { λ r. ⌜ outcomeOfRecords r ≡ judgeRecord start (now (body .entry)) i ⌝ }
 {
     let off = 4 + i * 56;
     if 8 <= remaining(body, off) {
@@ -54,7 +54,7 @@ fn judge_record(start: u64, body: &[u8], i: u64) -> Records
 // than the body has records.
 fn judge_records(start: u64, body: &[u8], n: u64) -> Records
     requires { ⌜ (start < 2 ^ 63 + 2 ^ 32) × (n < 2 ^ 32) ⌝ }
-    ensures { λ r. ⌜ toldRecords r ≡ judgeRecords start (now (body .entry)) n ⌝ }
+    ensures { λ r. ⌜ outcomeOfRecords r ≡ judgeRecords start (now (body .entry)) n ⌝ }
 {
     let mut i: u64 = 0;
     while i < n {
@@ -113,7 +113,7 @@ enum BodyAnswer {
 
 fn judge_body(start: u64, bytes: &[u8], body: &[u8]) -> BodyAnswer
     requires { ⌜ start < 2 ^ 63 + 2 ^ 32 ⌝ }
-    ensures { λ r. ⌜ toldBody (now (bytes .entry)) (now (body .entry)) r ≡ bodyEvent start (now (bytes .entry)) (now (body .entry)) ⌝ }
+    ensures { λ r. ⌜ outcomeOfBody (now (bytes .entry)) (now (body .entry)) r ≡ bodyEvent start (now (bytes .entry)) (now (body .entry)) ⌝ }
 {
     if 4 <= remaining(body, 0) {
         let count = u32_at(body, 0) as u64;
@@ -131,7 +131,7 @@ fn judge_body(start: u64, bytes: &[u8], body: &[u8]) -> BodyAnswer
 
 // The event at a place of the run, found and not handed out.
 fn find_counted(run: &[u8], at: u64, body_size: u32) -> PlacesAnswer
-    ensures { λ r. ⌜ toldPlaces (now (run .entry)) r ≡ findCounted «body_size» at (now (run .entry)) ⌝ }
+    ensures { λ r. ⌜ outcomeOfPlaces (now (run .entry)) r ≡ findCounted «body_size» at (now (run .entry)) ⌝ }
 {
     if 136 <= remaining(run, at) {
         let from = at as usize;

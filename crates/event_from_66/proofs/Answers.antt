@@ -4,14 +4,14 @@ use Prim.Native.Nat.{ℕ, _+_, _≤_, _<_}
 use mathlib.Core.Bool.{Bool, _&&_, not, cond}
 use mathlib.Core.List.{List}
 use lib.Dec.{eqb}
-use Rattle.preamble.specs.Settings.{isPrimary}
+use Rattle.event_preamble.specs.Settings.{isPrimary}
 use borrow.Author.Tests.{le-leb, lt-leb}
 use Rattle.refusal.specs.Outcome.{ok, ranOut}
 use Rattle.parser.specs.Parser.{parse, bytes, left}
 use Rattle.parser.specs.Call.{partAt}
-use Rattle.scan_event.specs.Places.{eventIn, toldPlaces}
-use Rattle.scan_event.specs.declared.Lists.{Lists}
-use Rattle.scan_event.specs.declared.PlacesAnswer.the-variants.{At}
+use Rattle.event_record.specs.Places.{eventIn, outcomeOfPlaces}
+use Rattle.event_record.specs.declared.Lists.{Lists}
+use Rattle.event_record.specs.declared.PlacesAnswer.the-variants.{At}
 use Rattle.event_from_66.specs.Layout.{bodySize, isTribrid, eventOf, from66}
 
 module _ (primary dependent : ℕ) (s : List ℕ) (at : ℕ) where
@@ -35,7 +35,7 @@ module _ (primary dependent : ℕ) (s : List ℕ) (at : ℕ) where
     -- the places that are answered, from what the code has in hand
     pub found : {body : List ℕ} {isT : Bool} (j : Lists) → body ≡ bytes s (at + 136) size → isT ≡ (not (eqb primary dependent) && not isP) → size ≤ left s (at + 136)
         → eventIn pre body j ≡ eventOf pre body isT
-        → toldPlaces s (At (record { preamble = at; «preamble_len» = 136; body = at + 136; «body_len» = size; lists = j; next = at + 136 + size })) ≡ partAt 3 at (from66 primary dependent) s
+        → outcomeOfPlaces s (At (record { preamble = at; «preamble_len» = 136; body = at + 136; «body_len» = size; lists = j; next = at + 136 + size })) ≡ partAt 3 at (from66 primary dependent) s
     found j hb ht u e =
         let same : eventIn (bytes s at 136) (bytes s (at + 136) size) j ≡ eventOf (bytes s at 136) (bytes s (at + 136) size) (isTribrid (bytes s at 136) primary dependent) =
         rw (hb, ht, hq, hp) at e in

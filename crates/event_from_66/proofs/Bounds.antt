@@ -9,18 +9,18 @@ use lib.Dec.{eqb}
 use lib.ListN.{length}
 use borrow.Author.Tests.{le-leb, lt-leb}
 use Rattle.lists.proofs.Cases.{le-or-lt}
-use Rattle.preamble.specs.Settings.{byte, isDependent, isPrimary}
-use Rattle.window.specs.Window.{windowAt, orElse, search, found}
-use Rattle.window.specs.declared.Window.{Window}
-use Rattle.window.specs.declared.Window.the-variants.{Absent, Ends}
-use Rattle.window.specs.declared.Found.{Found}
-use Rattle.coefficient.specs.Coefficients.{wordAfter, wordPlace}
+use Rattle.event_preamble.specs.Settings.{byte, isDependent, isPrimary}
+use Rattle.event_window.specs.Window.{windowAt, orElse, search, found}
+use Rattle.event_window.specs.declared.Window.{Window}
+use Rattle.event_window.specs.declared.Window.the-variants.{Absent, Ends}
+use Rattle.event_window.specs.declared.Found.{Found}
+use Rattle.event_coefficients.specs.Coefficients.{wordAfter, wordPlace}
 use Rattle.lists.specs.Written.{each}
-use Rattle.reaction.specs.Reactions.{reactionsIn}
-use Rattle.reaction.specs.Source.{inSource}
-use Rattle.reaction.specs.declared.Source.the-variants.{Every, Sought}
+use Rattle.event_reactions.specs.Reactions.{reactionsIn}
+use Rattle.event_reactions.specs.Source.{inSource}
+use Rattle.event_reactions.specs.declared.Source.the-variants.{Every, Sought}
 use Rattle.event_from_66.specs.Layout.{sought, reactionsOf}
-use Rattle.event_from_66.specs.Judged.{sourceOf}
+use Rattle.event_from_66.specs.Internal.{sourceOf}
 
 -- the first of two candidates' offsets
 else-most : (w : Window) (off most : ℕ) (rest : Found) → off ≤ most → rest .offset ≤ most → orElse w off rest .offset ≤ most

@@ -4,24 +4,24 @@ ghost use mathlib.Core.Bool.{_&&_, not, cond};
 ghost use Prim.Native.Nat.{_<_};
 ghost use lib.Dec.{eqb};
 ghost use Rattle.parser.specs.Call.{partAt};
-ghost use Rattle.scan_event.specs.Event.{slices, Answers};
-ghost use Rattle.scan_event.specs.Places.{eventIn, toldPlaces};
+ghost use Rattle.event_record.specs.Event.{slices, Answers};
+ghost use Rattle.event_record.specs.Places.{eventIn, outcomeOfPlaces};
 ghost use Rattle.event_from_66.specs.Layout.{eventOf, from66, readFrom66};
-ghost use Rattle.event_from_66.specs.Judged.{sourceOf};
-use coefficient::coefficient_count;
-use coefficient::word_place;
-use preamble::is_primary;
-use reaction::Source;
+ghost use Rattle.event_from_66.specs.Internal.{sourceOf};
+use event_coefficients::coefficient_count;
+use event_coefficients::word_place;
+use event_preamble::is_primary;
+use event_reactions::Source;
+use event_record::EventAnswer;
+use event_record::Lists;
+use event_record::Places;
+use event_record::PlacesAnswer;
+use event_record::write_event;
+use event_window::end_bits;
+use event_window::find_window;
 use reader::remaining;
 use refusal::Part;
 use refusal::Refusal;
-use scan_event::EventAnswer;
-use scan_event::Lists;
-use scan_event::Places;
-use scan_event::PlacesAnswer;
-use scan_event::write_event;
-use window::end_bits;
-use window::find_window;
 
 // Where the reactions of an event stand. A primary event has none.
 fn reactions_of(bytes: &[u8], tribrid: bool) -> Source
@@ -76,7 +76,7 @@ fn is_tribrid(primary: bool, body_primary: u32, body_dependent: u32) -> bool
 
 // The event at a place of the run, found and not handed out.
 fn find_from_66(run: &[u8], at: u64, body_primary: u32, body_dependent: u32) -> PlacesAnswer
-    ensures { λ r. ⌜ toldPlaces (now (run .entry)) r ≡ partAt 3 at (from66 «body_primary» «body_dependent») (now (run .entry)) ⌝ }
+    ensures { λ r. ⌜ outcomeOfPlaces (now (run .entry)) r ≡ partAt 3 at (from66 «body_primary» «body_dependent») (now (run .entry)) ⌝ }
 {
     if 136 <= remaining(run, at) {
         let from = at as usize;

@@ -12,15 +12,15 @@ use Rattle.parser.specs.Call.{onward, outcome}
 use Rattle.parser.proofs.Prefix.{after}
 use Rattle.parser.proofs.Walk.{parse-repeat}
 use Rattle.parser.proofs.Answered.{found, ran-out}
-use Rattle.preamble.specs.Settings.{isPrimary}
-use Rattle.scan_event.specs.Event.{Event}
+use Rattle.event_preamble.specs.Settings.{isPrimary}
+use Rattle.event_record.specs.Event.{Event}
 use Rattle.event_before_66.specs.Layout.{before66, sizesOf, findSizes}
-use Rattle.event_before_66.specs.Places.{end}
+use Rattle.event_before_66.specs.Internal.{end}
 use Rattle.event_before_66.specs.declared.Sizes.{Sizes}
 use Rattle.event_before_66.proofs.Answers.{stands}
 use Rattle.event_from_66.specs.Layout.{from66}
 use Rattle.event_walk.specs.Walk.{event, eventEnd, eventPlace}
-use Rattle.event_walk.specs.Layouts.{endBefore66, endFrom66}
+use Rattle.event_walk.specs.Internal.{endBefore66, endFrom66}
 
 -- below version 66
 module _ (version : ℕ) (s : List ℕ) (at : ℕ) where

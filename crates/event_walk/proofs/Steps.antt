@@ -11,12 +11,12 @@ use Rattle.parser.specs.Parser.{Parser, Parsed, short, parsed, parse, repeat}
 use Rattle.parser.specs.Call.{onward, outcome}
 use Rattle.parser.proofs.Prefix.{after}
 use Rattle.parser.proofs.Walk.{parse-repeat}
-use Rattle.scan_event.specs.Event.{Event}
+use Rattle.event_record.specs.Event.{Event}
 use Rattle.event_before_66.specs.Layout.{before66}
 use Rattle.event_before_66.proofs.Answers.{parse-short-head}
 use Rattle.event_from_66.specs.Layout.{from66}
 use Rattle.event_walk.specs.Walk.{event, eventEnd, eventPlace}
-use Rattle.event_walk.specs.Layouts.{endFrom66}
+use Rattle.event_walk.specs.Internal.{endFrom66}
 use Rattle.event_walk.proofs.Ends.{no-preamble, ends, ends-cons}
 
 module _ (one : Parser Event) (s : List ℕ) where
@@ -52,10 +52,10 @@ module _ (version primary dependent : ℕ) (s : List ℕ) where
   unfolding eventPlace eventEnd outcome endOf
   place-more start k = one-more (event version primary dependent) s k start
 
-  -- behind the end of the run there is no event
-  pub none-behind : (at : ℕ) → length s ≤ at → eventEnd version primary dependent at s ≡ ranOut 3
+  -- after the end of the run there is no event
+  pub none-after : (at : ℕ) → length s ≤ at → eventEnd version primary dependent at s ≡ ranOut 3
   unfolding eventEnd event outcome endFrom66
-  none-behind at h = go (leb 66 version)
+  none-after at h = go (leb 66 version)
     where
       go : (b : Bool) → onward 3 (parse (cond b (from66 primary dependent) (before66 version)) s at) (λ _ next. ok next) ≡ ranOut 3
       go true = sym (no-preamble primary dependent s at (omega arith))

@@ -1,19 +1,19 @@
 // Events that follow one another in a run: where one ends, and where the k-th starts. Nothing is handed out of them.
 ghost use mathlib.Core.Path.{_≡_};
-ghost use Rattle.refusal.specs.Number.{toldCount};
+ghost use Rattle.refusal.specs.Number.{outcomeOfCount};
 ghost use Rattle.event_walk.specs.Walk.{eventEnd, eventPlace};
-ghost use Rattle.event_walk.specs.Layouts.{endBefore66, endFrom66};
+ghost use Rattle.event_walk.specs.Internal.{endBefore66, endFrom66};
 use event_before_66::SizesAnswer;
 use event_before_66::find_sizes;
 use event_from_66::body_size;
-use preamble::is_primary;
+use event_preamble::is_primary;
 use reader::remaining;
 use refusal::CountAnswer;
 use refusal::Part;
 use refusal::Refusal;
 
 fn end_before_66(run: &[u8], at: u64, version: u32) -> CountAnswer
-    ensures { λ r. ⌜ toldCount r ≡ endBefore66 version at (now (run .entry)) ⌝ }
+    ensures { λ r. ⌜ outcomeOfCount r ≡ endBefore66 version at (now (run .entry)) ⌝ }
 {
     match find_sizes(run, at, version) {
         SizesAnswer::Refused(r) => CountAnswer::Refused(r),
@@ -24,7 +24,7 @@ fn end_before_66(run: &[u8], at: u64, version: u32) -> CountAnswer
 }
 
 fn end_from_66(run: &[u8], at: u64, body_primary: u32, body_dependent: u32) -> CountAnswer
-    ensures { λ r. ⌜ toldCount r ≡ endFrom66 «body_primary» «body_dependent» at (now (run .entry)) ⌝ }
+    ensures { λ r. ⌜ outcomeOfCount r ≡ endFrom66 «body_primary» «body_dependent» at (now (run .entry)) ⌝ }
 {
     if 136 <= remaining(run, at) {
         let from = at as usize;
@@ -45,7 +45,7 @@ pub fn event_end(
     body_primary: u32,
     body_dependent: u32,
 ) -> CountAnswer
-    ensures { λ r. ⌜ toldCount r ≡ eventEnd version «body_primary» «body_dependent» at (now (run .entry)) ⌝ }
+    ensures { λ r. ⌜ outcomeOfCount r ≡ eventEnd version «body_primary» «body_dependent» at (now (run .entry)) ⌝ }
 {
     if version >= 66 {
         return end_from_66(run, at, body_primary, body_dependent);
@@ -63,7 +63,7 @@ pub fn event_place(
     body_primary: u32,
     body_dependent: u32,
 ) -> CountAnswer
-    ensures { λ r. ⌜ toldCount r ≡ eventPlace version «body_primary» «body_dependent» start k (now (run .entry)) ⌝ }
+    ensures { λ r. ⌜ outcomeOfCount r ≡ eventPlace version «body_primary» «body_dependent» start k (now (run .entry)) ⌝ }
 {
     let mut at = start;
     let mut i: u16 = 0;

@@ -4,8 +4,8 @@ use Prim.Native.Nat.{ℕ, _≤_, _<_}
 use native.Mathlib.Omega.{arith}
 use mathlib.Core.List.{List}
 use borrow.Author.Tests.{le-leb, lt-leb, ne-eqb}
-use Rattle.preamble.specs.Size.{sizeForVersion}
-use Rattle.scan_event.specs.declared.Lent.{Lent}
+use Rattle.event_preamble.specs.Size.{sizeForVersion}
+use Rattle.event_record.specs.declared.Lent.{Lent}
 use Rattle.event_before_66.specs.Layout.{readBefore66}
 use Rattle.event_from_66.specs.Layout.{readFrom66}
 use Rattle.events.specs.Event.{readEvent}

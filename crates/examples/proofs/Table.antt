@@ -6,15 +6,16 @@ use Prim.Native.Nat.{ℕ}
 use lib.IntN.{pos, negsuc}
 use lib.Ieee.{Float, nan, fin, binary32, binary64, round, ofInt, ofBits, toBits, add, sub, mul, div, eq, lt, le}
 use Rattle.refusal.specs.Outcome.{ok}
-use Rattle.preamble.specs.Size.{sizeForVersion}
-use Rattle.window.specs.Window.{lowest, highest, windowOf}
-use Rattle.window.specs.declared.Window.the-variants.{Ends}
+use Rattle.event_preamble.specs.Size.{sizeForVersion}
+use Rattle.event_window.specs.Window.{lowest, windowOf}
+use Rattle.event_window.specs.declared.Window.the-variants.{Ends}
 use Rattle.calibration.specs.Convert.{freqToMz}
-use Rattle.narrow.specs.Narrow.{narrow}
+use Rattle.float_narrow.specs.Narrow.{narrow}
 use Rattle.noise.specs.Line.{noiseAt, noiseOf, past, between, fraction}
 use Rattle.noise.specs.Nodes.{Words}
 use Rattle.noise.specs.declared.NoiseAnswer.the-variants.{Values}
-use Rattle.ten_thousandths.specs.TenThousandths.{limit, scaled, tenThousandths}
+use Rattle.float_ten_thousandths.specs.TenThousandths.{scaled, tenThousandths}
+use Rattle.float_bits.specs.Numbers.{largestMass}
 
 -- n as a float: the same value in both formats, below 2 ^ 24
 abbrev whole : ℕ → Float
@@ -62,5 +63,5 @@ pub table : (a b : ℕ) (cs : List ℕ)
     × (noiseAt (whole 150) nodes ≡ Values (toBits binary32 threeHalves) (bits32 4))
     × (noiseAt nan nodes ≡ Values (bits32 2) (bits32 5))
     × (tenThousandths mass ≡ ok 5000313)
-unfolding ofInt round ofBits toBits add sub mul div eq lt le sizeForVersion lowest highest freqToMz narrow noiseOf past between fraction limit scaled tenThousandths
+unfolding ofInt round ofBits toBits add sub mul div eq lt le sizeForVersion lowest largestMass freqToMz narrow noiseOf past between fraction largestMass scaled tenThousandths
 table a b cs = (refl, refl, refl, refl, refl, refl, refl, refl, refl, refl, refl, refl, refl)

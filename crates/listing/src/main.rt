@@ -4,18 +4,18 @@ ghost use mathlib.Core.Path.{_≡_};
 ghost use Prim.Native.Nat.{_≤_};
 ghost use lib.ListN.{length};
 ghost use Rattle.refusal.specs.Outcome.{andThen};
-ghost use Rattle.refusal.specs.Number.{toldCount};
+ghost use Rattle.refusal.specs.Number.{outcomeOfCount};
 ghost use Rattle.tray.specs.Scan.{eventOf, nextEvent};
-ghost use Rattle.tray.specs.Places.{placeOrEnd};
+ghost use Rattle.tray.specs.Internal.{placeOrEnd};
 use libc::STDIN_FILENO;
 use libc::STDOUT_FILENO;
+use listing_tray::list_header;
+use listing_tray::list_scan;
 use refusal::CountAnswer;
 use tray::event_of;
 use tray::next_event;
 use tray_header::TrayHeaderAnswer;
 use tray_header::read_tray_header;
-use tray_lines::list_header;
-use tray_lines::list_scan;
 
 // What was written of the buffer, which holds every text: the lines of a scan take at most 55,360 bytes.
 fn print(out: &[u8; 57344], answer: CountAnswer) {
@@ -35,9 +35,9 @@ fn print_header(tray: &[u8]) {
     print(&out, answer);
 }
 
-// An event starts where the one before ends. One that was not found has none behind it.
-fn event_behind(tray: &[u8], found: CountAnswer) -> CountAnswer
-    ensures { λ r. ⌜ toldCount r ≡ andThen (toldCount found) (λ at. nextEvent at (now (tray .entry))) ⌝ }
+// An event starts where the one before ends. One that was not found has none after it.
+fn event_after(tray: &[u8], found: CountAnswer) -> CountAnswer
+    ensures { λ r. ⌜ outcomeOfCount r ≡ andThen (outcomeOfCount found) (λ at. nextEvent at (now (tray .entry))) ⌝ }
 {
     match found {
         CountAnswer::Refused(r) => CountAnswer::Refused(r),
@@ -45,10 +45,10 @@ fn event_behind(tray: &[u8], found: CountAnswer) -> CountAnswer
     }
 }
 
-// A place to read an event at. One that was not found is sought behind every run: its scan's entry is judged first, and then
+// A place to read an event at. One that was not found is sought after every run: its scan's entry is judged first, and then
 // the events run out.
 fn place_or_end(found: CountAnswer) -> u64
-    ensures { λ r. ⌜ r ≡ placeOrEnd (toldCount found) ⌝ }
+    ensures { λ r. ⌜ r ≡ placeOrEnd (outcomeOfCount found) ⌝ }
 {
     match found {
         CountAnswer::Refused(_) => u64::MAX,
@@ -58,7 +58,7 @@ fn place_or_end(found: CountAnswer) -> u64
 
 // Scan k, whose event was sought.
 fn print_scan(tray: &[u8], k: u32, found: CountAnswer)
-    requires { ⌜ toldCount found ≡ eventOf k (now tray) ⌝ }
+    requires { ⌜ outcomeOfCount found ≡ eventOf k (now tray) ⌝ }
 {
     let mut out = [0u8; 57344];
     let answer = list_scan(tray, k, place_or_end(found), &mut out);
@@ -74,7 +74,7 @@ fn print_scans(tray: &[u8]) {
     let mut k: u32 = 0;
     while k < count {
         print_scan(tray, k, found);
-        found = event_behind(tray, found);
+        found = event_after(tray, found);
         k = k + 1;
     }
 }

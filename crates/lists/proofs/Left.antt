@@ -1,5 +1,4 @@
 -- What a call leaves, by its outcome, and the room test.
--- Assumes nothing.
 use mathlib.Core.Path.{_≡_, refl, sym, _∙_}
 use Prim.Native.Nat.{ℕ, _≤_, _<_}
 use native.Mathlib.Omega.{arith}
@@ -9,13 +8,13 @@ use lib.Dec.{leb}
 use lib.ListN.{length, length-map}
 use borrow.Author.Tests.{leb-true, le-leb, lt-leb}
 use Rattle.refusal.specs.Outcome.{Outcome, ok, refused}
-use Rattle.refusal.proofs.Outcomes.{refused-of}
-use Rattle.refusal.proofs.Told.{count-one}
+use Rattle.refusal.proofs.Outcomes.{refused-of, ok-not-refused}
+use Rattle.refusal.proofs.OneAnswer.{count-one}
 use Rattle.refusal.specs.declared.CountAnswer.{CountAnswer}
 use Rattle.refusal.specs.declared.CountAnswer.the-variants.{Count, Refused}
 use Rattle.refusal.specs.declared.Refusal.the-variants.{NoRoom}
 use Rattle.lists.specs.Written.{over, fitting}
-use Rattle.lists.specs.Left.{after, Left, fits, LeftList, firsts, seconds, handOutPairs, LeftPairs}
+use Rattle.lists.specs.Left.{after, Left, fits, LeftList, overAll, lengths, listsIfFit, LeftLists, firsts, seconds, pairsIfFit, LeftPairs}
 use Rattle.lists.proofs.Cases.{and-true}
 use Rattle.lists.proofs.Laws.{fitting-all}
 
@@ -29,7 +28,7 @@ pub record Wrote {A B L : Type 0} (answer : A → B) (write : A → L → L) (o 
 wrote-by : {A B L : Type 0} (answer : A → B) (write : A → L → L) (o : Outcome A) {b : B} {xs ys : L} → Left answer write o xs (ok b) ys → Wrote answer write o b xs ys
 unfolding after
 wrote-by answer write (ok a) l = let e = l .answered in record { value = a; is = refl; answered = cc; written = l .stands }
-wrote-by answer write (refused n carries) l = let e = l .answered in let c : _≡_ {A = ℕ} 0 1 = cc in absurd (omega arith)
+wrote-by answer write (refused n carries) l = ok-not-refused (l .answered)
 
 -- ---- the ways out of a call
 module _ {A B L : Type 0} {answer : A → B} {write : A → L → L} {o : Outcome A} {xs : L} where
@@ -44,7 +43,7 @@ module _ {A B L : Type 0} {answer : A → B} {write : A → L → L} {o : Outcom
   left-written h p q = record { answered = rw (← h, p); stands = rw (← h, q) }
 
   -- it hands another's answer on
-  pub left-same : {o′ : Outcome A} {told : Outcome B} {ys : L} → o ≡ o′ → Left answer write o xs told ys → Left answer write o′ xs told ys
+  pub left-same : {o′ : Outcome A} {r : Outcome B} {ys : L} → o ≡ o′ → Left answer write o xs r ys → Left answer write o′ xs r ys
   left-same h l = rw (← h) l
 
   -- and back
@@ -56,23 +55,25 @@ module _ {A B L : Type 0} {answer : A → B} {write : A → L → L} {o : Outcom
   stayed {n} {carries} l = let e = refused-of answer o (l .answered) in (e, l .stands ∙ rw (← e))
 
 -- ---- a contract leaves one answer and one content of the slices, if the answer is known by what it tells
-pub left-one : {R A B L : Type 0} (told : R → Outcome B) → ((r q : R) → told r ≡ told q → r ≡ q) → (answer : A → B) (write : A → L → L) (o : Outcome A) (xs : L)
-    → {r q : R} {ys zs : L} → Left answer write o xs (told r) ys → Left answer write o xs (told q) zs → (r ≡ q) × (ys ≡ zs)
-left-one told one answer write o xs {r} {q} l m = (one r q (l .answered ∙ sym (m .answered)), l .stands ∙ sym (m .stands))
+pub left-one : {R A B L : Type 0} (outcomeOf : R → Outcome B) → ((r q : R) → outcomeOf r ≡ outcomeOf q → r ≡ q) → (answer : A → B) (write : A → L → L) (o : Outcome A) (xs : L)
+    → {r q : R} {ys zs : L} → Left answer write o xs (outcomeOf r) ys → Left answer write o xs (outcomeOf q) zs → (r ≡ q) × (ys ≡ zs)
+left-one outcomeOf one answer write o xs {r} {q} l m = (one r q (l .answered ∙ sym (m .answered)), l .stands ∙ sym (m .stands))
 
 pub list-one : {A : Type 0} {vs xs : List A} {r q : CountAnswer} {ys zs : List A} → LeftList vs xs r ys → LeftList vs xs q zs → (r ≡ q) × (ys ≡ zs)
 list-one {A} {vs} {xs} {r} {q} l m = (count-one r q (l .answered ∙ sym (m .answered)), l .stands ∙ sym (m .stands))
 
 -- ---- the room test: each count is within its slice
-abbrev pub Within : List (ℕ × ℕ) → Type 0
-Within [] = Unit {0}
-Within (p ∷ ps) = (p .0 ≤ p .1) × Within ps
+abbrev pub Within : List ℕ → List ℕ → Type 0
+Within [] capacities = Unit {0}
+Within (n ∷ ns) [] = ⊥
+Within (n ∷ ns) (c ∷ cs) = (n ≤ c) × Within ns cs
 
-pub fits-true : (ps : List (ℕ × ℕ)) → fits ps ≡ true → Within ps
-fits-true [] h = tt
-fits-true (p ∷ ps) h =
-    let both = and-true (leb (p .0) (p .1)) (fits ps) h in
-    (leb-true _ _ (both .0), fits-true ps (both .1))
+pub fits-true : (ns cs : List ℕ) → fits ns cs ≡ true → Within ns cs
+fits-true [] cs h = tt
+fits-true (n ∷ ns) [] h = let c : _≡_ {A = ℕ} 0 1 = cc in absurd (omega arith)
+fits-true (n ∷ ns) (c ∷ cs) h =
+    let both = and-true (leb n c) (fits ns cs) h in
+    (leb-true _ _ (both .0), fits-true ns cs (both .1))
 
 -- ---- a list in one slice
 module _ {A : Type 0} (vs xs : List A) where
@@ -83,6 +84,16 @@ module _ {A : Type 0} (vs xs : List A) where
   pub list-written : {n : ℕ} {ys : List A} → length vs ≡ n → length vs ≤ length xs → ys ≡ over vs xs → LeftList vs xs (Count n) ys
   list-written e h w = record { answered = rw (le-leb (length vs) (length xs) h, e); stands = w ∙ sym (fitting-all vs xs h) }
 
+-- ---- several lists, each in a slice of its own
+module _ {E A : Type 0} (a : A) (vs xs : List (List E)) where
+  pub lists-no-room : fits (lengths vs) (lengths xs) ≡ false → LeftLists (λ c. listsIfFit c a vs) xs (refused 8 []) xs
+  unfolding listsIfFit
+  lists-no-room h = left-refused (rw h)
+
+  pub lists-written : {b : A} {ys : List (List E)} → fits (lengths vs) (lengths xs) ≡ true → b ≡ a → ys ≡ overAll vs xs → LeftLists (λ c. listsIfFit c a vs) xs (ok b) ys
+  unfolding listsIfFit
+  lists-written h p q = left-written {a = (a, vs)} (rw h) p q
+
 -- ---- pairs in two slices
 module _ {A B : Type 0} where
   -- a column that a writer left which tests its slice's end itself
@@ -91,16 +102,16 @@ module _ {A B : Type 0} where
 
   module _ (ps : List (A × B)) {n : ℕ} (count : length ps ≡ n) (xs : List A) (ys : List B) where
     abbrev roomFor : Bool
-    roomFor = fits ((n, length xs) ∷ (n, length ys) ∷ [])
+    roomFor = fits (n ∷ n ∷ []) (length xs ∷ length ys ∷ [])
 
-    pub pairs-no-room : roomFor ≡ false → LeftPairs (λ a b. handOutPairs a b ps) xs ys (Refused NoRoom) xs ys
-    unfolding handOutPairs
+    pub pairs-no-room : roomFor ≡ false → LeftPairs (λ a b. pairsIfFit a b ps) xs ys (Refused NoRoom) xs ys
+    unfolding pairsIfFit
     pairs-no-room h = left-refused (rw (count, h))
 
     pub pairs-written : roomFor ≡ true → {xs′ : List A} {ys′ : List B} → xs′ ≡ fitting (firsts ps) xs → ys′ ≡ fitting (seconds ps) ys
-        → LeftPairs (λ a b. handOutPairs a b ps) xs ys (Count n) xs′ ys′
-    unfolding handOutPairs
+        → LeftPairs (λ a b. pairsIfFit a b ps) xs ys (Count n) xs′ ys′
+    unfolding pairsIfFit
     pairs-written h e f =
-        let w = fits-true ((n, length xs) ∷ (n, length ys) ∷ []) h in
+        let w = fits-true (n ∷ n ∷ []) (length xs ∷ length ys ∷ []) h in
         left-written {a = ps} (rw (count, h)) (sym count)
         (rw (e ∙ column (λ p. p .0) ps xs (omega arith), f ∙ column (λ p. p .1) ps ys (omega arith)))

@@ -1,12 +1,12 @@
--- What a call leaves that writes into lent slices: its answer, and the slices. L is all that is lent, a product of lists.
+-- What a call leaves that writes into lent slices: its answer, and the slices. A slice's capacity is its length.
 use mathlib.Core.Path.{_≡_}
 use Prim.Native.Nat.{ℕ}
-use mathlib.Core.Bool.{Bool, true, _&&_, cond}
+use mathlib.Core.Bool.{Bool, true, false, _&&_, cond}
 use mathlib.Core.List.{List, [], _∷_, map}
 use lib.Dec.{leb}
 use lib.ListN.{length}
 use Rattle.refusal.specs.Outcome.{Outcome, ok, refused, onOk}
-use Rattle.refusal.specs.Number.{toldCount}
+use Rattle.refusal.specs.Number.{outcomeOfCount}
 use Rattle.refusal.specs.declared.CountAnswer.{CountAnswer}
 use Rattle.lists.specs.Written.{over, fitting}
 
@@ -15,24 +15,45 @@ unfoldable pub after : {A L : Type 0} → (A → L → L) → Outcome A → L �
 after write (ok a) xs = write a xs
 after write (refused number carries) xs = xs
 
--- a call with this outcome was lent xs: it tells `told`, and leaves ys. Both equations leave one answer and one ys
-pub record Left {A B L : Type 0} (answer : A → B) (write : A → L → L) (o : Outcome A) (xs : L) (told : Outcome B) (ys : L) : Type 0 where
-  pub answered : told ≡ onOk answer o
+-- a call with the outcome o was lent xs: its answer has the outcome r, and it leaves ys. L is all that is lent. Both
+-- equations leave one answer and one ys
+pub record Left {A B L : Type 0} (answer : A → B) (write : A → L → L) (o : Outcome A) (xs : L) (r : Outcome B) (ys : L) : Type 0 where
+  pub answered : r ≡ onOk answer o
   pub stands : ys ≡ after write o xs
 
--- each count is at most the length of its slice
-abbrev pub fits : List (ℕ × ℕ) → Bool
-fits [] = true
-fits (p ∷ ps) = leb (p .0) (p .1) && fits ps
+-- each count is at most the capacity of its slice
+abbrev pub fits : List ℕ → List ℕ → Bool
+fits [] capacities = true
+fits (n ∷ ns) [] = false
+fits (n ∷ ns) (c ∷ cs) = leb n c && fits ns cs
 
 -- the value, or refusal 8 where a lent slice is too short
-abbrev pub ifRoom : {A : Type 0} → Bool → A → Outcome A
-ifRoom room a = cond room (ok a) (refused 8 [])
+abbrev pub ifFits : {A : Type 0} → Bool → A → Outcome A
+ifFits room a = cond room (ok a) (refused 8 [])
 
 -- ---- a list, in one slice: a call that writes vs over the front of xs, if it holds them, and answers how many it wrote
 pub record LeftList {A : Type 0} (vs xs : List A) (r : CountAnswer) (ys : List A) : Type 0 where
-  pub answered : toldCount r ≡ ifRoom (leb (length vs) (length xs)) (length vs)
+  pub answered : outcomeOfCount r ≡ ifFits (leb (length vs) (length xs)) (length vs)
   pub stands : ys ≡ fitting vs xs
+
+-- ---- several lists, each in a slice of its own
+module _ {E : Type 0} where
+  -- the slices, with a list over the front of each
+  abbrev pub overAll : List (List E) → List (List E) → List (List E)
+  overAll [] xs = xs
+  overAll (v ∷ vs) [] = []
+  overAll (v ∷ vs) (x ∷ xs) = over v x ∷ overAll vs xs
+
+  abbrev pub lengths : List (List E) → List ℕ
+  lengths xs = map length xs
+
+  -- a call's answer with the lists that it writes, or refusal 8, where slices of these capacities are lent
+  unfoldable pub listsIfFit : {A : Type 0} → List ℕ → A → List (List E) → Outcome (A × List (List E))
+  listsIfFit capacities a vs = ifFits (fits (lengths vs) capacities) (a, vs)
+
+  -- such a call was lent xs: its answer has the outcome r, and it leaves ys. The call goes by the capacities
+  abbrev pub LeftLists : {A : Type 0} → (List ℕ → Outcome (A × List (List E))) → List (List E) → Outcome A → List (List E) → Type 0
+  LeftLists {A} call xs r ys = Left (λ (v : A × List (List E)). v .0) (λ (v : A × List (List E)). overAll (v .1)) (call (lengths xs)) xs r ys
 
 -- ---- a list of pairs, in two slices: peaks, windows, pairs of a profile
 module _ {A B : Type 0} where
@@ -45,10 +66,10 @@ module _ {A B : Type 0} where
   abbrev pub columns : List (A × B) → List A × List B → List A × List B
   columns ps xs = (over (firsts ps) (xs .0), over (seconds ps) (xs .1))
 
-  -- the pairs, or refusal 8, where slices of these lengths are lent
-  unfoldable pub handOutPairs : ℕ → ℕ → List (A × B) → Outcome (List (A × B))
-  handOutPairs m n ps = ifRoom (fits ((length ps, m) ∷ (length ps, n) ∷ [])) ps
+  -- the pairs, or refusal 8, where slices of these capacities are lent
+  unfoldable pub pairsIfFit : ℕ → ℕ → List (A × B) → Outcome (List (A × B))
+  pairsIfFit m n ps = ifFits (fits (length ps ∷ length ps ∷ []) (m ∷ n ∷ [])) ps
 
-  -- a call of two lent slices that answers how many pairs it wrote. The call goes by the slices' lengths
+  -- a call of two lent slices that answers how many pairs it wrote. The call goes by the capacities
   abbrev pub LeftPairs : (ℕ → ℕ → Outcome (List (A × B))) → List A → List B → CountAnswer → List A → List B → Type 0
-  LeftPairs call xs ys r xs′ ys′ = Left length columns (call (length xs) (length ys)) (xs, ys) (toldCount r) (xs′, ys′)
+  LeftPairs call xs ys r xs′ ys′ = Left length columns (call (length xs) (length ys)) (xs, ys) (outcomeOfCount r) (xs′, ys′)

@@ -7,19 +7,19 @@ use Rattle.parser.specs.Parser.{parsed, parse}
 use Rattle.parser.specs.Walk.{sum}
 use Rattle.parser.specs.Call.{outcome}
 use Rattle.packet_header.specs.declared.PacketHeader.{PacketHeader}
-use Rattle.profile.specs.Profile.{points, profile, located}
-use Rattle.profile.proofs.Answers.{profile-chunks}
-use Rattle.scan_packet.specs.Packet.{Stored, absent, present, describeProfile, decoded, Lent}
-use Rattle.scan_packet.specs.Places.{decodedAt}
-use Rattle.scan_packet.specs.declared.PacketProfile.{PacketProfile}
-use Rattle.scan_packet.specs.declared.Places.{Places}
-use Rattle.scan_packet.proofs.Found.{decoded-is}
+use Rattle.packet_profile.specs.Profile.{points, profile, located}
+use Rattle.packet_profile.proofs.Answers.{profile-chunks}
+use Rattle.packet_record.specs.Packet.{Stored, absent, present, describeProfile, decoded, Lent}
+use Rattle.packet_record.specs.Places.{decodedAt}
+use Rattle.packet_record.specs.declared.PacketProfile.{PacketProfile}
+use Rattle.packet_record.specs.declared.Places.{Places}
+use Rattle.packet_record.proofs.Found.{decoded-is}
 use Rattle.packet_places.specs.Packet.{stored, packet}
 use Rattle.packet_places.specs.Places.{fullPlaces, findPlaces}
 use Rattle.packet_places.proofs.Stages.{present-parsed}
 use Rattle.packet_places.proofs.Answers.{packet-short, Standing, standing}
 use Rattle.packet_full.specs.Full.{columns, chunksOf, ChunkLent, handOut, readPacket}
-use Rattle.packet_full.specs.Judged.{chunkList, chunksAt, ProfileThere}
+use Rattle.packet_full.specs.Internal.{chunkList, chunksAt, ProfileThere}
 
 -- a stored profile's chunks, by its record
 record Chunked (v : PacketProfile) (p : Stored) (s : List ℕ) : Type 0 where

@@ -7,20 +7,20 @@ use mathlib.Core.List.{List, [], _∷_}
 use lib.Dec.{leb}
 use lib.ListN.{length, length-map}
 use Rattle.refusal.specs.Outcome.{Outcome, ok, refused, onOk}
-use Rattle.lists.specs.Left.{Left, ifRoom}
+use Rattle.lists.specs.Left.{Left, ifFits}
 use Rattle.lists.proofs.Left.{left-refused, left-written, left-same, wrote, stayed, fits-true}
 use Rattle.parser.specs.Walk.{sum}
 use Rattle.parser.proofs.Walk.{length-parsed}
-use Rattle.profile.specs.Profile.{points, chunk}
-use Rattle.scan_packet.specs.Packet.{describe, Decoded, nodesAt, Slices, Lent, lentOf, room, written}
-use Rattle.scan_packet.specs.Packet as lists
-use Rattle.scan_packet.specs.Places.{decodedAt}
-use Rattle.scan_packet.specs.declared.PacketProfile.{PacketProfile}
-use Rattle.scan_packet.specs.declared.PacketProfile.the-variants.{Absent, Present}
-use Rattle.scan_packet.specs.declared.Places.{Places}
-use Rattle.scan_packet.specs.declared.ScanDataPacket.{ScanDataPacket}
+use Rattle.packet_profile.specs.Profile.{points, chunk}
+use Rattle.packet_record.specs.Packet.{describe, Decoded, nodesAt, Slices, Lent, lentOf, room, written}
+use Rattle.packet_record.specs.Packet as lists
+use Rattle.packet_record.specs.Places.{decodedAt}
+use Rattle.packet_record.specs.declared.PacketProfile.{PacketProfile}
+use Rattle.packet_record.specs.declared.PacketProfile.the-variants.{Absent, Present}
+use Rattle.packet_record.specs.declared.Places.{Places}
+use Rattle.packet_record.specs.declared.ScanDataPacket.{ScanDataPacket}
 use Rattle.packet_full.specs.Full.{Columns, fourOf, columns, ChunkLent, chunkLentOf, chunkRoom, handOut, columnsOver, allWritten}
-use Rattle.packet_full.specs.Judged.{chunksAt, ProfileThere, HasChunks, chunkCount, pointCount}
+use Rattle.packet_full.specs.Internal.{chunksAt, ProfileThere, HasChunks, chunkCount, pointCount}
 use Rattle.packet_full.proofs.Writing.{signals-size}
 
 -- chunks that are there are as many as the profile says
@@ -46,7 +46,7 @@ has-chunks Absent s xs t h = tt
 has-chunks (Present p) s xs t h =
     let cs = chunksAt (Present p) s in
     let c = columns cs in
-    let w = fits-true ((length (c .bins), length (xs .bins)) ∷ (length (c .counts), length (xs .counts)) ∷ (length (c .fudges), length (xs .fudges)) ∷ (length (c .signal), length (xs .signal)) ∷ []) h in
+    let w = fits-true (length (c .bins) ∷ length (c .counts) ∷ length (c .fudges) ∷ length (c .signal) ∷ []) (length (xs .bins) ∷ length (xs .counts) ∷ length (xs .fudges) ∷ length (xs .signal) ∷ []) h in
     let size = lengths (Present p) s t .0 in
     record {
       parsing = t;
@@ -65,7 +65,7 @@ module _ (d : Decoded) (c : Columns) (xs : Slices) (zs : Columns) where
   unfolding handOut
   no-chunk-room h = left-refused (rw h (go (room (lentOf xs) d)))
     where
-      go : (b : Bool) → refused 8 [] ≡ ifRoom {A = Decoded × Columns} (b && false) (d, c)
+      go : (b : Bool) → refused 8 [] ≡ ifFits {A = Decoded × Columns} (b && false) (d, c)
       go true = refl
       go false = refl
 
@@ -77,7 +77,7 @@ module _ (d : Decoded) (c : Columns) (xs : Slices) (zs : Columns) where
       let e = stayed l in
       rw (e .1) (left-refused (go (room (lentOf xs) d) (e .0)))
     where
-      go : (b : Bool) → refused n carries ≡ ifRoom b d → refused n carries ≡ ifRoom {A = Decoded × Columns} (b && chunkRoom (chunkLentOf zs) c) (d, c)
+      go : (b : Bool) → refused n carries ≡ ifFits b d → refused n carries ≡ ifFits {A = Decoded × Columns} (b && chunkRoom (chunkLentOf zs) c) (d, c)
       go true h = let z : _≡_ {A = ℕ} 0 1 = cc in absurd (omega arith)
       go false h = let p : n ≡ 8 = cc in let q : carries ≡ [] = cc in rw (p, q)
 
@@ -91,18 +91,18 @@ module _ (d : Decoded) (c : Columns) (xs : Slices) (zs : Columns) where
       left-written {a = (d, c)} (rw (r .0, h)) (w .answered ∙ ap (λ (x : Decoded). x .packet) (r .1))
       (rw (w .written ∙ ap (λ (x : Decoded). written x xs) (r .1), k))
     where
-      go : {x : Decoded} (b : Bool) → ok x ≡ ifRoom b d → (b ≡ true) × (x ≡ d)
+      go : {x : Decoded} (b : Bool) → ok x ≡ ifFits b d → (b ≡ true) × (x ≡ d)
       go true h = (refl, cc)
       go false h = let z : _≡_ {A = ℕ} 0 1 = cc in absurd (omega arith)
 
 -- the nodes at the place that the record answers are those that are handed out
 module _ (v : Places) (s : List ℕ) (c : Columns) where
-  nodes-told : (lent : Lent) (chunkLent : ChunkLent)
+  nodes-outcome : (lent : Lent) (chunkLent : ChunkLent)
       → onOk (nodesAt s) (onOk packetOf (handOut lent chunkLent (decodedAt v s) c)) ≡ onOk (λ (p : Decoded × Columns). p .0 .nodes) (handOut lent chunkLent (decodedAt v s) c)
   unfolding handOut describe
-  nodes-told lent chunkLent = go (room lent (decodedAt v s) && chunkRoom chunkLent c)
+  nodes-outcome lent chunkLent = go (room lent (decodedAt v s) && chunkRoom chunkLent c)
     where
-      go : (b : Bool) → onOk (nodesAt s) (onOk packetOf (ifRoom b (decodedAt v s, c))) ≡ onOk (λ (p : Decoded × Columns). p .0 .nodes) (ifRoom b (decodedAt v s, c))
+      go : (b : Bool) → onOk (nodesAt s) (onOk packetOf (ifFits b (decodedAt v s, c))) ≡ onOk (λ (p : Decoded × Columns). p .0 .nodes) (ifFits b (decodedAt v s, c))
       go true = refl
       go false = refl
 
@@ -110,7 +110,7 @@ module _ (v : Places) (s : List ℕ) (c : Columns) where
       → Left packetOf allWritten (handOut (lentOf (xs .0)) (chunkLentOf (xs .1)) (decodedAt v s) c) xs t ys
       → Left packetOf allWritten o xs t ys × (onOk (nodesAt s) t ≡ onOk (λ (p : Decoded × Columns). p .0 .nodes) o)
   handed {o} {xs} h l =
-      (left-same h l, ap (onOk (nodesAt s)) (l .answered) ∙ nodes-told (lentOf (xs .0)) (chunkLentOf (xs .1)) ∙ ap (onOk (λ (p : Decoded × Columns). p .0 .nodes)) h)
+      (left-same h l, ap (onOk (nodesAt s)) (l .answered) ∙ nodes-outcome (lentOf (xs .0)) (chunkLentOf (xs .1)) ∙ ap (onOk (λ (p : Decoded × Columns). p .0 .nodes)) h)
 
 pub not-handed : (s : List ℕ) {o : Outcome (Decoded × Columns)} {xs : Slices × Columns} {number : ℕ} {carries : List ℕ} → refused number carries ≡ o
     → Left packetOf allWritten o xs (refused number carries) xs × (onOk (nodesAt s) (refused number carries) ≡ onOk (λ (p : Decoded × Columns). p .0 .nodes) o)

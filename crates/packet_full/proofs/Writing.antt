@@ -8,11 +8,11 @@ use mathlib.Core.List.{List, [], _∷_, _++_, append-assoc, append-nil, map, map
 use lib.ListN.{length, take, drop, set, length-append, length-set, length-map, length-take, length-drop}
 use Rattle.lists.specs.Written.{each, over, fitting}
 use Rattle.lists.proofs.Laws.{length-each, length-over, over-none, over-tail, store-at, fitting-all}
-use Rattle.parser.specs.Parser.{parsed, bytes, le, left, parse, repeat}
+use Rattle.parser.specs.Parser.{parsed, bytes, littleEndian, left, parse, repeat}
 use Rattle.parser.specs.Walk.{sum}
 use Rattle.parser.proofs.Walk.{FirstOf, first-of}
-use Rattle.profile.specs.Profile.{headSize, Chunk, points, chunk, fudgeAt}
-use Rattle.profile.proofs.Chunks.{Whole, whole-chunk}
+use Rattle.packet_profile.specs.Profile.{headSize, Chunk, points, chunk, fudgeAt}
+use Rattle.packet_profile.proofs.Chunks.{Whole, whole-chunk}
 use Rattle.packet_full.specs.Full.{fourOf, columns, signals, columnsOver}
 
 -- a column of the chunks that are done, over the front of its slice
@@ -95,7 +95,7 @@ module _ {count : ℕ} {fudged : Bool} {s : List ℕ} {all : List Chunk} {b c f 
     first : FirstOf (chunk fudged) (count - (i + 1)) s at (w .rest) (w .end)
     first = let e : count - i ≡ suc (count - (i + 1)) = omega arith in first-of (chunk fudged) (count - (i + 1)) s at (rw e at (w .there))
 
-    module _ (n : ℕ) (e : n ≡ le (bytes s (at + 4) 4)) where
+    module _ (n : ℕ) (e : n ≡ littleEndian (bytes s (at + 4) 4)) where
       this : Whole fudged s at n e (first .first) (first .next)
       this = whole-chunk fudged s at n e (first .here)
 
@@ -117,13 +117,13 @@ module _ {count : ℕ} {fudged : Bool} {s : List ℕ} {all : List Chunk} {b c f 
       fits = omega (arith, sizes, w .in-signal)
 
       -- one chunk more: each column by a store, and the signal through the tail of its slice
-      turn : {x y z : ℕ} {W′ : List ℕ} → x ≡ le (bytes s at 4) → y ≡ n → z ≡ fudgeAt fudged s at
-          → (ys : List ℕ) → ys ≡ fitting (each (λ k. le (bytes s (at + headSize fudged + k * 4) 4)) n) (take (length W - written) (drop written W))
+      turn : {x y z : ℕ} {W′ : List ℕ} → x ≡ littleEndian (bytes s at 4) → y ≡ n → z ≡ fudgeAt fudged s at
+          → (ys : List ℕ) → ys ≡ fitting (each (λ k. littleEndian (bytes s (at + headSize fudged + k * 4) 4)) n) (take (length W - written) (drop written W))
           → W′ ≡ take written W ++ (ys ++ drop (length W - written) (drop written W))
           → Writing count fudged s all b c f v (set B i x) (set C i y) (set F i z) W′ (at + headSize fudged + n * 4) (written + n) (i + 1)
       turn {x} {y} {z} {W′} hx hy hz ys hs hw =
           let k = first .first in
-          let values = each (λ j. le (bytes s (at + headSize fudged + j * 4) 4)) n in
+          let values = each (λ j. littleEndian (bytes s (at + headSize fudged + j * 4) 4)) n in
           let bin : x ≡ k .firstBin = hx ∙ sym (ap (λ (q : Chunk). q .firstBin) (this .is)) in
           let count-of : y ≡ points k = hy ∙ sym long in
           let fudge : z ≡ k .fudge = hz ∙ sym (ap (λ (q : Chunk). q .fudge) (this .is)) in
@@ -157,14 +157,14 @@ module _ {count : ℕ} {fudged : Bool} {s : List ℕ} {all : List Chunk} {b c f 
           }
 
       -- the same, where the head's size was found
-      pub turn-by : {x y z head : ℕ} {W′ : List ℕ} → x ≡ le (bytes s at 4) → y ≡ n → z ≡ fudgeAt fudged s at → head ≡ headSize fudged
-          → (ys : List ℕ) → ys ≡ fitting (each (λ k. le (bytes s (at + head + k * 4) 4)) n) (take (length W - written) (drop written W))
+      pub turn-by : {x y z head : ℕ} {W′ : List ℕ} → x ≡ littleEndian (bytes s at 4) → y ≡ n → z ≡ fudgeAt fudged s at → head ≡ headSize fudged
+          → (ys : List ℕ) → ys ≡ fitting (each (λ k. littleEndian (bytes s (at + head + k * 4) 4)) n) (take (length W - written) (drop written W))
           → W′ ≡ take written W ++ (ys ++ drop (length W - written) (drop written W))
           → Writing count fudged s all b c f v (set B i x) (set C i y) (set F i z) W′ (at + head + n * 4) (written + n) (i + 1)
       turn-by {x} {y} {z} {head} {W′} hx hy hz hh =
           subst
           (λ (k : ℕ).
-          (ys : List ℕ) → ys ≡ fitting (each (λ j. le (bytes s (at + k + j * 4) 4)) n) (take (length W - written) (drop written W))
+          (ys : List ℕ) → ys ≡ fitting (each (λ j. littleEndian (bytes s (at + k + j * 4) 4)) n) (take (length W - written) (drop written W))
           → W′ ≡ take written W ++ (ys ++ drop (length W - written) (drop written W))
           → Writing count fudged s all b c f v (set B i x) (set C i y) (set F i z) W′ (at + k + n * 4) (written + n) (i + 1))
           (sym hh)

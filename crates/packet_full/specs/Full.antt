@@ -5,13 +5,13 @@ use mathlib.Core.List.{List, [], _∷_, _++_, map}
 use lib.ListN.{length}
 use Rattle.refusal.specs.Outcome.{Outcome}
 use Rattle.lists.specs.Written.{over}
-use Rattle.lists.specs.Left.{Left, fits, ifRoom}
+use Rattle.lists.specs.Left.{Left, fits, ifFits}
 use Rattle.parser.specs.Call.{outcome, single}
-use Rattle.profile.specs.Profile.{Chunk, points}
+use Rattle.packet_profile.specs.Profile.{Chunk, points}
 use Rattle.packet_places.specs.Packet.{packet}
 use Rattle.packet_places.specs.Places.{fullPlaces}
-use Rattle.scan_packet.specs.Packet.{Stored, absent, present, Decoded, decoded, Slices, Lent, lentOf, room, told, written}
-use Rattle.scan_packet.specs.declared.PacketAnswer.{PacketAnswer}
+use Rattle.packet_record.specs.Packet.{Stored, absent, present, Decoded, decoded, Slices, Lent, lentOf, room, outcomeOf, written}
+use Rattle.packet_record.specs.declared.PacketAnswer.{PacketAnswer}
 
 -- chunks in four columns: first bins, how many values each has, fudges, and the values of them all
 pub record Columns : Type 0 where
@@ -46,11 +46,11 @@ chunkLentOf xs = record { bins = length (xs .bins); counts = length (xs .counts)
 
 abbrev pub chunkRoom : ChunkLent → Columns → Bool
 chunkRoom lent c =
-    fits ((length (c .bins), lent .bins) ∷ (length (c .counts), lent .counts) ∷ (length (c .fudges), lent .fudges) ∷ (length (c .signal), lent .signal) ∷ [])
+    fits (length (c .bins) ∷ length (c .counts) ∷ length (c .fudges) ∷ length (c .signal) ∷ []) (lent .bins ∷ lent .counts ∷ lent .fudges ∷ lent .signal ∷ [])
 
 -- the packet and its chunks, or refusal 8 where a lent slice is shorter than its count
 unfoldable pub handOut : Lent → ChunkLent → Decoded → Columns → Outcome (Decoded × Columns)
-handOut lent chunkLent d c = ifRoom (room lent d && chunkRoom chunkLent c) (d, c)
+handOut lent chunkLent d c = ifFits (room lent d && chunkRoom chunkLent c) (d, c)
 
 -- what `read_packet` answers
 unfoldable pub readPacket : Lent → ChunkLent → ℕ → List ℕ → Outcome (Decoded × Columns)
@@ -66,4 +66,4 @@ allWritten p xs = (written (p .0) (xs .0), columnsOver (p .1) (xs .1))
 
 -- a call was lent the slices xs: it answers r, and leaves ys. The call goes by the slices' lengths
 abbrev pub Answers : (Lent → ChunkLent → Outcome (Decoded × Columns)) → Slices × Columns → PacketAnswer → Slices × Columns → Type 0
-Answers call xs r ys = Left (λ (p : Decoded × Columns). p .0 .packet) allWritten (call (lentOf (xs .0)) (chunkLentOf (xs .1))) xs (told r) ys
+Answers call xs r ys = Left (λ (p : Decoded × Columns). p .0 .packet) allWritten (call (lentOf (xs .0)) (chunkLentOf (xs .1))) xs (outcomeOf r) ys

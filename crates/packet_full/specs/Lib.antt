@@ -1,2 +1,2 @@
 pub mod Full
-pub mod Judged
+pub mod Internal

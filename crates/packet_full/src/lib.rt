@@ -1,22 +1,22 @@
 // A whole packet: profile, peaks and labels (`ScanDataPacket::read` of scan_data.rs).
 ghost use mathlib.Core.Path.{_≡_};
 ghost use Rattle.refusal.specs.Outcome.{onOk};
-ghost use Rattle.scan_packet.specs.Packet.{nodesAt, slices, lentOf, told};
-ghost use Rattle.scan_packet.specs.Places.{decodedAt};
+ghost use Rattle.packet_record.specs.Packet.{nodesAt, slices, lentOf, outcomeOf};
+ghost use Rattle.packet_record.specs.Places.{decodedAt};
 ghost use Rattle.packet_full.specs.Full.{fourOf, columns, chunkLentOf, columnsOver, handOut, readPacket, Answers};
-ghost use Rattle.packet_full.specs.Judged.{ChunksThere, HasChunks, ProfileThere, chunkList, chunksAt, chunkCount, pointCount};
+ghost use Rattle.packet_full.specs.Internal.{ChunksThere, HasChunks, ProfileThere, chunkList, chunksAt, chunkCount, pointCount};
 use lists::holds;
 use packet_places::find_places;
-use profile::Profile;
-use profile::fudge_at;
-use profile::head_size;
+use packet_profile::Profile;
+use packet_profile::fudge_at;
+use packet_profile::head_size;
+use packet_record::PacketAnswer;
+use packet_record::PacketProfile;
+use packet_record::Places;
+use packet_record::PlacesAnswer;
 use reader::copy_u32s;
 use reader::u32_at;
 use refusal::Refusal;
-use scan_packet::PacketAnswer;
-use scan_packet::PacketProfile;
-use scan_packet::Places;
-use scan_packet::PlacesAnswer;
 
 // The columns of chunks that are there, where the slices hold them. Each chunk's signal stands after that of the chunk
 // before.
@@ -122,7 +122,7 @@ fn hand_out(
         bins.len() as u64,
         holds(n, counts.len() as u64, values_fit),
     ) {
-        match scan_packet::hand_out(run, places, mz, abundance, descriptors, resolutions) {
+        match packet_record::hand_out(run, places, mz, abundance, descriptors, resolutions) {
             PacketAnswer::Refused(r) => PacketAnswer::Refused(r),
             PacketAnswer::Packet(packet) => {
                 write_columns(run, profile, bins, counts, fudges, signal);
@@ -150,7 +150,7 @@ pub fn read_packet(
     ensures { λ r. ⌜ Answers (λ lent chunkLent. readPacket lent chunkLent at (now (run .entry)))
         (slices (now (mz .entry)) (now (abundance .entry)) (now (descriptors .entry)) (now (resolutions .entry)), fourOf (now (bins .entry)) (now (counts .entry)) (now (fudges .entry)) (now (signal .entry)))
         r (slices (now (mz .exit)) (now (abundance .exit)) (now (descriptors .exit)) (now (resolutions .exit)), fourOf (now (bins .exit)) (now (counts .exit)) (now (fudges .exit)) (now (signal .exit))) ⌝ }
-    ensures { λ r. ⌜ onOk (nodesAt (now (run .entry))) (told r)
+    ensures { λ r. ⌜ onOk (nodesAt (now (run .entry))) (outcomeOf r)
         ≡ onOk (λ p. p .0 .nodes) (readPacket (lentOf (slices (now (mz .entry)) (now (abundance .entry)) (now (descriptors .entry)) (now (resolutions .entry))))
         (chunkLentOf (fourOf (now (bins .entry)) (now (counts .entry)) (now (fudges .entry)) (now (signal .entry)))) at (now (run .entry))) ⌝ }
 {

@@ -7,7 +7,7 @@ use borrow.Author.Tests.{leb-true, le-leb, lt-leb}
 use Rattle.refusal.specs.Outcome.{ok, refused, ranOut}
 use Rattle.parser.specs.Parser.{short, parsed, left, parse}
 use Rattle.parser.specs.Call.{outcome}
-use Rattle.parser.specs.Fixed.{Sized, value}
+use Rattle.parser.specs.Internal.{Sized, value}
 use Rattle.parser.proofs.Prefix.{within-parsed}
 use Rattle.parser.proofs.Fixed.{parse-sized}
 use Rattle.parser.proofs.Answered.{found, ran-out}

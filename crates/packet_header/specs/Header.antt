@@ -2,7 +2,7 @@
 use Prim.Native.Nat.{ℕ}
 use mathlib.Core.List.{List}
 use Rattle.refusal.specs.Outcome.{Outcome, ok}
-use Rattle.refusal.specs.Number.{toldRefusal}
+use Rattle.refusal.specs.Number.{outcomeOfRefusal}
 use Rattle.parser.specs.Parser.{Parser, done, _>>=_, _>>_, word, skip}
 use Rattle.parser.specs.Call.{outcome, single}
 use Rattle.packet_header.specs.declared.PacketHeader.{PacketHeader}
@@ -36,6 +36,6 @@ header = do
 unfoldable pub readHeader : ℕ → List ℕ → Outcome PacketHeader
 readHeader at run = outcome (single 4 at header (λ h _. ok h)) run
 
-abbrev pub told : HeaderAnswer → Outcome PacketHeader
-told (answer.Header h) = ok h
-told (answer.Refused r) = toldRefusal r
+abbrev pub outcomeOf : HeaderAnswer → Outcome PacketHeader
+outcomeOf (answer.Header h) = ok h
+outcomeOf (answer.Refused r) = outcomeOfRefusal r

@@ -13,10 +13,10 @@ use Rattle.lists.proofs.Cases.{le-or-lt}
 use Rattle.parser.specs.Parser.{bytes, left}
 use Rattle.noise.specs.Nodes.{nodesOf}
 use Rattle.noise.specs.Line.{noiseAt}
-use Rattle.scan_packet.specs.Packet.{nodesAt, told}
-use Rattle.scan_packet.specs.declared.ScanDataPacket.{ScanDataPacket}
-use Rattle.scan_packet.specs.declared.PacketAnswer.{PacketAnswer}
-use Rattle.scan_packet.specs.declared.PacketAnswer.the-variants as answer
+use Rattle.packet_record.specs.Packet.{nodesAt, outcomeOf}
+use Rattle.packet_record.specs.declared.ScanDataPacket.{ScanDataPacket}
+use Rattle.packet_record.specs.declared.PacketAnswer.{PacketAnswer}
+use Rattle.packet_record.specs.declared.PacketAnswer.the-variants as answer
 
 pub bytes-length : (s : List ℕ) (at n : ℕ) → length (bytes s at n) ≡ min n (left s at)
 bytes-length s at n = simp (length-take, length-drop)
@@ -46,7 +46,7 @@ part-is s at n start end e f =
 
 -- A reader's promise says that the nodes at the places which it answers are those that it read (`nodes` of its outcome's value).
 -- So noise by an answered packet is noise by that packet's nodes
-pub packet-nodes : {A : Type 0} (nodes : A → List ℕ) (o : Outcome A) (s : List ℕ) (p : ScanDataPacket) → onOk (nodesAt s) (told (answer.Packet p)) ≡ onOk nodes o
+pub packet-nodes : {A : Type 0} (nodes : A → List ℕ) (o : Outcome A) (s : List ℕ) (p : ScanDataPacket) → onOk (nodesAt s) (outcomeOf (answer.Packet p)) ≡ onOk nodes o
     → (a : A) × (ok a ≡ o) × (nodesAt s p ≡ nodes a) × ((mz : Float) → noiseAt mz (nodesOf (nodesAt s p)) ≡ noiseAt mz (nodesOf (nodes a)))
 packet-nodes nodes o s p h =
     let m = made-of nodes o h in
@@ -54,6 +54,6 @@ packet-nodes nodes o s p h =
 
 -- A packet that was answered on s is also the answer on s ++ t, with the same outcome o (`packet-longer`, `skip-profile-longer`). Its nodes
 -- are the same there, and so are noise and labels, which go by them alone
-pub longer-nodes : {A : Type 0} (nodes : A → List ℕ) (o : Outcome A) (s t : List ℕ) (p : ScanDataPacket) → onOk (nodesAt s) (told (answer.Packet p)) ≡ onOk nodes o
-    → onOk (nodesAt (s ++ t)) (told (answer.Packet p)) ≡ onOk nodes o → nodesAt (s ++ t) p ≡ nodesAt s p
+pub longer-nodes : {A : Type 0} (nodes : A → List ℕ) (o : Outcome A) (s t : List ℕ) (p : ScanDataPacket) → onOk (nodesAt s) (outcomeOf (answer.Packet p)) ≡ onOk nodes o
+    → onOk (nodesAt (s ++ t)) (outcomeOf (answer.Packet p)) ≡ onOk nodes o → nodesAt (s ++ t) p ≡ nodesAt s p
 longer-nodes nodes o s t p h k = let e : ok (nodesAt (s ++ t) p) ≡ ok (nodesAt s p) = k ∙ sym h in cc

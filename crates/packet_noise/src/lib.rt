@@ -7,14 +7,14 @@ ghost use Rattle.parser.specs.Parser.{bytes};
 ghost use Rattle.noise.specs.Nodes.{nodesOf};
 ghost use Rattle.noise.specs.Line.{noiseAt};
 ghost use Rattle.noise.specs.Labels.{slices, Labels};
-ghost use Rattle.scan_packet.specs.Packet.{nodesAt};
+ghost use Rattle.packet_record.specs.Packet.{nodesAt};
 use noise::NoiseAnswer;
 use noise::label_peaks;
+use packet_record::ScanDataPacket;
 use reader::remaining;
 use refusal::CountAnswer;
-use scan_packet::ScanDataPacket;
 
-// A place, or the run's end where it lies behind that.
+// A place, or the run's end where it lies after that.
 fn start_in(run: &[u8], at: u64) -> usize
     ensures { λ r. ⌜ r ≡ min at (length (now (run .entry))) ⌝ }
 {

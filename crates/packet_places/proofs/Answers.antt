@@ -5,24 +5,24 @@ use Prim.Native.Nat.{ℕ, _+_}
 use mathlib.Core.List.{List}
 use Rattle.refusal.specs.Outcome.{Outcome, ok, refused, onOk, andThen}
 use Rattle.refusal.proofs.Outcomes.{made-of, Both, both-ok, one-refused}
-use Rattle.labels.specs.Labels.{Streams, readLabels}
-use Rattle.labels.specs.declared.Labels.{Labels}
+use Rattle.packet_labels.specs.Labels.{Streams, readLabels}
+use Rattle.packet_labels.specs.declared.Labels.{Labels}
 use Rattle.parser.specs.Parser.{parsed, parse}
 use Rattle.parser.specs.Call.{outcome}
 use Rattle.parser.proofs.Answered.{RanOut}
 use Rattle.packet_header.specs.Header.{readHeader}
 use Rattle.packet_header.specs.declared.PacketHeader.{PacketHeader}
-use Rattle.peak_list.specs.PeakList.{readPeaks}
-use Rattle.peak_list.specs.declared.PeakList.{PeakList}
+use Rattle.packet_peak_list.specs.PeakList.{readPeaks}
+use Rattle.packet_peak_list.specs.declared.PeakList.{PeakList}
 use Rattle.peaks.specs.Peaks.{Peak}
-use Rattle.scan_packet.specs.Packet.{Stored, describeProfile}
-use Rattle.scan_packet.specs.Places.{withLabels, peaksOf, streamsOf}
-use Rattle.scan_packet.specs.declared.PacketProfile.{PacketProfile}
-use Rattle.scan_packet.specs.declared.Places.{Places}
-use Rattle.scan_packet.proofs.Found.{Stands}
+use Rattle.packet_record.specs.Packet.{Stored, describeProfile}
+use Rattle.packet_record.specs.Places.{withLabels, peaksOf, streamsOf}
+use Rattle.packet_record.specs.declared.PacketProfile.{PacketProfile}
+use Rattle.packet_record.specs.declared.Places.{Places}
+use Rattle.packet_record.proofs.Found.{Stands}
 use Rattle.packet_places.specs.Packet.{stored, packet}
 use Rattle.packet_places.specs.Places.{fullPlaces, findPlaces, listsAt, findLists}
-use Rattle.packet_places.specs.Stages.{findProfile, behindHeader, inTurn}
+use Rattle.packet_places.specs.Internal.{findProfile, afterHeader, inTurn}
 use Rattle.packet_places.proofs.Stages.{header-short, k, stored-short, peaks-short, labels-short, whole}
 
 -- the labels leave the profile as it was found
@@ -34,12 +34,12 @@ with-profile s h p list e =
 module _ (s : List ℕ) (at : ℕ) where
   -- a refusal of any stage
   stage-short : {n : ℕ} {carries : List ℕ} → refused n carries ≡ inTurn at s → RanOut 4 packet s at n carries
-  unfolding inTurn behindHeader
+  unfolding inTurn afterHeader
   stage-short {n} {carries} i =
       ⊎-elim
       (λ (e : refused n carries ≡ readHeader at s). header-short s at e)
-      (λ (b : Both (readHeader at s) (λ h. behindHeader h at s) (refused n carries)). behind (b .value) (b .first) (b .second))
-      (one-refused (λ h. behindHeader h at s) (readHeader at s) i)
+      (λ (b : Both (readHeader at s) (λ h. afterHeader h at s) (refused n carries)). beyond (b .value) (b .first) (b .second))
+      (one-refused (λ h. afterHeader h at s) (readHeader at s) i)
     where
       last : (h : PacketHeader) → ok h ≡ readHeader at s → (p : PacketProfile × ℕ) → ok p ≡ findProfile h at s
           → refused n carries ≡ andThen (readPeaks h (p .1) s) (λ list. withLabels h (p .0) list s) → RanOut 4 packet s at n carries
@@ -49,9 +49,9 @@ module _ (s : List ℕ) (at : ℕ) where
           (λ (b : Both (readPeaks h (p .1) s) (λ list. withLabels h (p .0) list s) (refused n carries)). labels-short s at h e (p .0) (p .1) f (b .value) (b .first) (b .second))
           (one-refused (λ list. withLabels h (p .0) list s) (readPeaks h (p .1) s) j)
 
-      behind : (h : PacketHeader) → ok h ≡ readHeader at s
+      beyond : (h : PacketHeader) → ok h ≡ readHeader at s
           → refused n carries ≡ andThen (findProfile h at s) (λ p. andThen (readPeaks h (p .1) s) (λ list. withLabels h (p .0) list s)) → RanOut 4 packet s at n carries
-      behind h e j =
+      beyond h e j =
           ⊎-elim
           (λ (g : refused n carries ≡ findProfile h at s). stored-short s at h e g)
           (λ (b : Both (findProfile h at s) (λ p. andThen (readPeaks h (p .1) s) (λ list. withLabels h (p .0) list s)) (refused n carries)). last h e (b .value) (b .first) (b .second))
@@ -67,9 +67,9 @@ module _ (s : List ℕ) (at : ℕ) where
     pub stands : Stands packet (fullPlaces at) s at profile v
 
   stages-stand : {v : Places} → ok v ≡ inTurn at s → Standing v
-  unfolding inTurn behindHeader
+  unfolding inTurn afterHeader
   stages-stand {v} i =
-      let a = both-ok (λ h. behindHeader h at s) (readHeader at s) i in
+      let a = both-ok (λ h. afterHeader h at s) (readHeader at s) i in
       let b = both-ok (λ p. andThen (readPeaks (a .value) (p .1) s) (λ list. withLabels (a .value) (p .0) list s)) (findProfile (a .value) at s) (a .second) in
       let p = b .value in
       let c = both-ok (λ list. withLabels (a .value) (p .0) list s) (readPeaks (a .value) (p .1) s) (b .second) in

@@ -16,33 +16,33 @@ use Rattle.packet_header.specs.Header.{header, readHeader}
 use Rattle.packet_header.specs.declared.PacketHeader.{PacketHeader}
 use Rattle.packet_header.proofs.Size.{header-read}
 use Rattle.peaks.specs.Peaks.{Peak, peaksAt}
-use Rattle.peak_list.specs.PeakList.{itemSize, peakList, listSize, located, readPeaks}
-use Rattle.peak_list.specs.declared.PeakList.{PeakList}
-use Rattle.peak_list.proofs.Lists.{listed}
-use Rattle.profile.specs.Profile.{Axis, Chunk, profile, readProfile}
-use Rattle.profile.specs.declared.Profile.{Profile}
-use Rattle.profile.proofs.Answers.{profiled, unprofiled}
-use Rattle.profile.proofs.Size.{profile-end}
-use Rattle.labels.specs.Labels.{Streams}
-use Rattle.scan_packet.specs.Packet.{Stored, absent, present, Packet, behindPeaks, describeProfile, placed}
-use Rattle.scan_packet.specs.Places.{withLabels}
-use Rattle.scan_packet.specs.declared.PacketProfile.{PacketProfile}
-use Rattle.scan_packet.specs.declared.PacketProfile.the-variants.{Absent, Present}
-use Rattle.scan_packet.specs.declared.Places.{Places}
-use Rattle.scan_packet.proofs.Found.{Stands, ran-out-behind, found-behind}
+use Rattle.packet_peak_list.specs.PeakList.{itemSize, peakList, listSize, located, readPeaks}
+use Rattle.packet_peak_list.specs.declared.PeakList.{PeakList}
+use Rattle.packet_peak_list.proofs.Lists.{listed}
+use Rattle.packet_profile.specs.Profile.{Axis, Chunk, profile, readProfile}
+use Rattle.packet_profile.specs.declared.Profile.{Profile}
+use Rattle.packet_profile.proofs.Answers.{profiled, unprofiled}
+use Rattle.packet_profile.proofs.Size.{profile-end}
+use Rattle.packet_labels.specs.Labels.{Streams}
+use Rattle.packet_record.specs.Packet.{Stored, absent, present, Packet, afterPeaks, describeProfile, placed}
+use Rattle.packet_record.specs.Places.{withLabels}
+use Rattle.packet_record.specs.declared.PacketProfile.{PacketProfile}
+use Rattle.packet_record.specs.declared.PacketProfile.the-variants.{Absent, Present}
+use Rattle.packet_record.specs.declared.Places.{Places}
+use Rattle.packet_record.proofs.Found.{Stands, ran-out-after, found-after}
 use Rattle.packet_places.specs.Packet.{stored, storedSize, packet}
 use Rattle.packet_places.specs.Places.{fullPlaces}
-use Rattle.packet_places.specs.Stages.{findProfile, behindHeader}
+use Rattle.packet_places.specs.Internal.{findProfile, afterHeader}
 
 -- what is made of a profile, and what follows it and the header
 unfoldable pub keep : Axis × List Chunk → Parser Stored
 keep p = done (present p)
 
-unfoldable pub behindStored : PacketHeader → Stored → Parser Packet
-behindStored h p = peakList h >>= behindPeaks h p
+unfoldable pub afterStored : PacketHeader → Stored → Parser Packet
+afterStored h p = peakList h >>= afterPeaks h p
 
 unfoldable pub rest : PacketHeader → Parser Packet
-rest h = stored h >>= behindStored h
+rest h = stored h >>= afterStored h
 
 -- the profile
 module _ (h : PacketHeader) (at : ℕ) (s : List ℕ) where
@@ -101,11 +101,11 @@ stored-end h s place (present p) next e = profile-end (h .layout) s place (prese
 -- from the stages to the whole
 module _ (s : List ℕ) (at : ℕ) where
   to-rest : {h : PacketHeader} → ok h ≡ readHeader at s → parse packet s at ≡ parse (rest h) s (at + 40)
-  unfolding packet rest behindStored
+  unfolding packet rest afterStored
   to-rest e = parse-bind header rest s at ∙ rw (header-read s at e .1)
 
   pub header-short : {n : ℕ} {carries : List ℕ} → refused n carries ≡ readHeader at s → RanOut 4 packet s at n carries
-  unfolding packet rest behindStored readHeader
+  unfolding packet rest afterStored readHeader
   header-short e =
       let r = ran-out 4 at header (λ (v : PacketHeader) _. v) s e in
       record { there = parse-bind header rest s at ∙ rw (r .there); one = r .one; part = r .part }
@@ -129,26 +129,26 @@ module _ (s : List ℕ) (at : ℕ) where
     unfolding findProfile rest
     stored-short f =
         let r = ran-out 4 (at + 40) (stored h) (λ (q : Stored) (end : ℕ). (describeProfile (h .layout) at q, end)) s f in
-        record { there = to-rest e ∙ parse-bind (stored h) (behindStored h) s (at + 40) ∙ rw (r .there); one = r .one; part = r .part }
+        record { there = to-rest e ∙ parse-bind (stored h) (afterStored h) s (at + 40) ∙ rw (r .there); one = r .one; part = r .part }
 
     module _ (p : PacketProfile) (next : ℕ) (f : ok (p, next) ≡ findProfile h at s) where
       pub k : Kept p next
       k = kept p next f
 
-      to-peaks : parse packet s at ≡ parse (peakList h >>= behindPeaks h (k .profile)) s next
-      unfolding rest behindStored
-      to-peaks = to-rest e ∙ parse-bind (stored h) (behindStored h) s (at + 40) ∙ rw (k .there)
+      to-peaks : parse packet s at ≡ parse (peakList h >>= afterPeaks h (k .profile)) s next
+      unfolding rest afterStored
+      to-peaks = to-rest e ∙ parse-bind (stored h) (afterStored h) s (at + 40) ∙ rw (k .there)
 
       pub peaks-short : {n : ℕ} {carries : List ℕ} → refused n carries ≡ readPeaks h next s → RanOut 4 packet s at n carries
       unfolding readPeaks
       peaks-short g =
           let r = ran-out 4 next (peakList h) (located h next) s g in
-          record { there = to-peaks ∙ parse-bind (peakList h) (behindPeaks h (k .profile)) s next ∙ rw (r .there); one = r .one; part = r .part }
+          record { there = to-peaks ∙ parse-bind (peakList h) (afterPeaks h (k .profile)) s next ∙ rw (r .there); one = r .one; part = r .part }
 
       -- the list that was found
       record ListFound (list : PeakList) : Type 0 where
         peaks : List Peak
-        behind : parse packet s at ≡ parse (behindPeaks h (k .profile) peaks) s (list .next)
+        beyond : parse packet s at ≡ parse (afterPeaks h (k .profile) peaks) s (list .next)
         is : list ≡ located h next peaks (next + listSize h peaks)
         stand : peaks ≡ peaksAt (list .wide) (itemSize (list .wide)) s (list .at) (list .count)
 
@@ -160,27 +160,27 @@ module _ (s : List ℕ) (at : ℕ) where
           subst ListFound (sym (w .made))
           (record {
             peaks = w .value;
-            behind = to-peaks ∙ parse-bind (peakList h) (behindPeaks h (k .profile)) s next ∙ rw (w .there);
+            beyond = to-peaks ∙ parse-bind (peakList h) (afterPeaks h (k .profile)) s next ∙ rw (w .there);
             is = ap (located h next (w .value)) (l .end);
             stand = l .stand;
           })
 
       pub labels-short : (list : PeakList) → ok list ≡ readPeaks h next s → {n : ℕ} {carries : List ℕ} → refused n carries ≡ withLabels h p list s → RanOut 4 packet s at n carries
-      labels-short list g i = let l = list-found list g in ran-out-behind packet s at next h (k .profile) (l .peaks) list p (l .behind) (l .is) i
+      labels-short list g i = let l = list-found list g in ran-out-after packet s at next h (k .profile) (l .peaks) list p (l .beyond) (l .is) i
 
       pub whole : (list : PeakList) → ok list ≡ readPeaks h next s → {v : Places} → ok v ≡ withLabels h p list s → Stands packet (fullPlaces at) s at (k .profile) v
       whole list g i =
           let l = list-found list g in
           let packetOf : Streams → Packet = λ ls. record { header = h; profile = k .profile; peaks = l .peaks; labels = ls } in
-          found-behind packet s at next h (k .profile) (l .peaks) list p (l .behind) (l .is) (fullPlaces at)
+          found-after packet s at next h (k .profile) (l .peaks) list p (l .beyond) (l .is) (fullPlaces at)
           (λ ls end. ap (λ q. placed q next (packetOf ls) end) (k .is) ∙ ap (λ (n : ℕ). placed (describeProfile (h .layout) at (k .profile)) n (packetOf ls) end) (k .end)) (l .stand) i
 
--- the stages behind a header in turn
+-- the stages after a header in turn
 module _ (h : PacketHeader) (at : ℕ) (s : List ℕ) {p : PacketProfile} {next : ℕ} (f : ok (p, next) ≡ findProfile h at s) where
-  pub then-no-peaks : {n : ℕ} {carries : List ℕ} → refused n carries ≡ readPeaks h next s → refused n carries ≡ behindHeader h at s
-  unfolding behindHeader
+  pub then-no-peaks : {n : ℕ} {carries : List ℕ} → refused n carries ≡ readPeaks h next s → refused n carries ≡ afterHeader h at s
+  unfolding afterHeader
   then-no-peaks g = rw (← f, ← g)
 
-  pub then-labels : {list : PeakList} → ok list ≡ readPeaks h next s → {o : Outcome Places} → o ≡ withLabels h p list s → o ≡ behindHeader h at s
-  unfolding behindHeader
+  pub then-labels : {list : PeakList} → ok list ≡ readPeaks h next s → {o : Outcome Places} → o ≡ withLabels h p list s → o ≡ afterHeader h at s
+  unfolding afterHeader
   then-labels g i = rw (← f, ← g) i

@@ -1,3 +1,3 @@
 pub mod Packet
 pub mod Places
-pub mod Stages
+pub mod Internal

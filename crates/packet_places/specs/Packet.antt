@@ -5,9 +5,9 @@ use lib.Dec.{eqb}
 use Rattle.parser.specs.Parser.{Parser, done, _>>=_}
 use Rattle.packet_header.specs.Header.{header}
 use Rattle.packet_header.specs.declared.PacketHeader.{PacketHeader}
-use Rattle.peak_list.specs.PeakList.{peakList}
-use Rattle.profile.specs.Profile.{profile, profileSize}
-use Rattle.scan_packet.specs.Packet.{Stored, absent, present, Packet, behindPeaks}
+use Rattle.packet_peak_list.specs.PeakList.{peakList}
+use Rattle.packet_profile.specs.Profile.{profile, profileSize}
+use Rattle.packet_record.specs.Packet.{Stored, absent, present, Packet, afterPeaks}
 
 -- a profile of size 0 is none. Any other is as long as its chunks, whatever its size says
 unfoldable pub stored : PacketHeader → Parser Stored
@@ -22,4 +22,4 @@ packet = do
   h ← header
   p ← stored h
   peaks ← peakList h
-  behindPeaks h p peaks
+  afterPeaks h p peaks

@@ -4,10 +4,10 @@ use mathlib.Core.List.{List}
 use Rattle.refusal.specs.Outcome.{Outcome, ok}
 use Rattle.parser.specs.Call.{outcome, single}
 use Rattle.peaks.specs.Peaks.{Peak}
-use Rattle.labels.specs.Labels.{Streams}
-use Rattle.scan_packet.specs.Packet.{Packet, describeProfile, placed}
-use Rattle.scan_packet.specs.Places.{peaksOf, streamsOf}
-use Rattle.scan_packet.specs.declared.Places.{Places}
+use Rattle.packet_labels.specs.Labels.{Streams}
+use Rattle.packet_record.specs.Packet.{Packet, describeProfile, placed}
+use Rattle.packet_record.specs.Places.{peaksOf, streamsOf}
+use Rattle.packet_record.specs.declared.Places.{Places}
 use Rattle.packet_places.specs.Packet.{storedSize, packet}
 
 -- of the packet at `at`, which ends at `next`

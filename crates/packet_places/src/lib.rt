@@ -4,21 +4,21 @@ ghost use mathlib.Core.Path.{_≡_};
 ghost use Prim.Native.Nat.{_≤_};
 ghost use Rattle.parser.specs.Parser.{left};
 ghost use Rattle.refusal.specs.Outcome.{onOk};
-ghost use Rattle.scan_packet.specs.Places.{toldPlaces};
+ghost use Rattle.packet_record.specs.Places.{outcomeOfPlaces};
 ghost use Rattle.packet_places.specs.Places.{findPlaces, listsAt, findLists};
-ghost use Rattle.packet_places.specs.Stages.{findProfile, toldProfile, behindHeader};
+ghost use Rattle.packet_places.specs.Internal.{findProfile, outcomeOfProfile, afterHeader};
 use packet_header::HeaderAnswer;
 use packet_header::PacketHeader;
-use peak_list::PeakListAnswer;
-use peak_list::read_peaks;
-use profile::Profile;
-use profile::ProfileAnswer;
+use packet_peak_list::PeakListAnswer;
+use packet_peak_list::read_peaks;
+use packet_profile::Profile;
+use packet_profile::ProfileAnswer;
+use packet_record::PacketProfile;
+use packet_record::PlacesAnswer;
+use packet_record::with_labels;
 use refusal::Refusal;
-use scan_packet::PacketProfile;
-use scan_packet::PlacesAnswer;
-use scan_packet::with_labels;
 
-// A packet's profile, if it has one, and the place behind it.
+// A packet's profile, if it has one, and the place after it.
 enum FoundProfile {
     Found(PacketProfile, u64),
     Refused(Refusal),
@@ -27,7 +27,7 @@ enum FoundProfile {
 // The profile of the packet at a place, whose header is there.
 fn find_profile(run: &[u8], at: u64, h: PacketHeader) -> FoundProfile
     requires { ⌜ 40 ≤ left (now run) at ⌝ }
-    ensures { λ r. ⌜ toldProfile r ≡ findProfile h at (now (run .entry)) ⌝ }
+    ensures { λ r. ⌜ outcomeOfProfile r ≡ findProfile h at (now (run .entry)) ⌝ }
 {
     if h.profile_size == 0 {
         return FoundProfile::Found(PacketProfile::Absent, at + 40);
@@ -38,9 +38,9 @@ fn find_profile(run: &[u8], at: u64, h: PacketHeader) -> FoundProfile
     }
 }
 
-fn behind_header(run: &[u8], at: u64, h: PacketHeader) -> PlacesAnswer
+fn after_header(run: &[u8], at: u64, h: PacketHeader) -> PlacesAnswer
     requires { ⌜ 40 ≤ left (now run) at ⌝ }
-    ensures { λ r. ⌜ toldPlaces r ≡ behindHeader h at (now (run .entry)) ⌝ }
+    ensures { λ r. ⌜ outcomeOfPlaces r ≡ afterHeader h at (now (run .entry)) ⌝ }
 {
     match find_profile(run, at, h) {
         FoundProfile::Refused(r) => PlacesAnswer::Refused(r),
@@ -53,11 +53,11 @@ fn behind_header(run: &[u8], at: u64, h: PacketHeader) -> PlacesAnswer
 
 // Where the parts of the packet at a place of the run stand.
 pub fn find_places(run: &[u8], at: u64) -> PlacesAnswer
-    ensures { λ r. ⌜ toldPlaces r ≡ findPlaces at (now (run .entry)) ⌝ }
-    ensures { λ r. ⌜ onOk (listsAt (now (run .entry))) (toldPlaces r) ≡ findLists at (now (run .entry)) ⌝ }
+    ensures { λ r. ⌜ outcomeOfPlaces r ≡ findPlaces at (now (run .entry)) ⌝ }
+    ensures { λ r. ⌜ onOk (listsAt (now (run .entry))) (outcomeOfPlaces r) ≡ findLists at (now (run .entry)) ⌝ }
 {
     match PacketHeader::read(run, at) {
         HeaderAnswer::Refused(r) => PlacesAnswer::Refused(r),
-        HeaderAnswer::Header(h) => behind_header(run, at, h),
+        HeaderAnswer::Header(h) => after_header(run, at, h),
     }
 }

@@ -1,15 +1,15 @@
 // A packet's peaks and labels, with its profile passed over (`ScanDataPacket::read_skip_profile` of scan_data.rs).
 ghost use mathlib.Core.Path.{_≡_};
 ghost use Rattle.refusal.specs.Outcome.{onOk};
-ghost use Rattle.scan_packet.specs.Packet.{nodesAt, slices, lentOf, told, Answers};
+ghost use Rattle.packet_record.specs.Packet.{nodesAt, slices, lentOf, outcomeOf, Answers};
 ghost use Rattle.packet_skipping.specs.Skipping.{readSkipProfile};
-use peak_list::SkippedAnswer;
-use peak_list::skip_to_peaks;
-use scan_packet::PacketAnswer;
-use scan_packet::PacketProfile;
-use scan_packet::PlacesAnswer;
-use scan_packet::hand_out;
-use scan_packet::with_labels;
+use packet_peak_list::SkippedAnswer;
+use packet_peak_list::skip_to_peaks;
+use packet_record::PacketAnswer;
+use packet_record::PacketProfile;
+use packet_record::PlacesAnswer;
+use packet_record::hand_out;
+use packet_record::with_labels;
 
 pub fn read_skip_profile(
     run: &[u8],
@@ -22,7 +22,7 @@ pub fn read_skip_profile(
     ensures { λ r. ⌜ Answers (λ lent. readSkipProfile lent at (now (run .entry)))
         (slices (now (mz .entry)) (now (abundance .entry)) (now (descriptors .entry)) (now (resolutions .entry)))
         r (slices (now (mz .exit)) (now (abundance .exit)) (now (descriptors .exit)) (now (resolutions .exit))) ⌝ }
-    ensures { λ r. ⌜ onOk (nodesAt (now (run .entry))) (told r)
+    ensures { λ r. ⌜ onOk (nodesAt (now (run .entry))) (outcomeOf r)
         ≡ onOk (λ d. d .nodes) (readSkipProfile (lentOf (slices (now (mz .entry)) (now (abundance .entry)) (now (descriptors .entry)) (now (resolutions .entry)))) at (now (run .entry))) ⌝ }
 {
     match skip_to_peaks(run, at) {

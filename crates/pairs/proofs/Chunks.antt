@@ -5,7 +5,7 @@ use native.Mathlib.Omega.{arith}
 use mathlib.Core.Bool.{Bool}
 use mathlib.Core.List.{List, [], _∷_}
 use Rattle.parser.specs.Parser.{short, parsed, parse}
-use Rattle.profile.specs.Profile.{Chunk, chunk}
+use Rattle.packet_profile.specs.Profile.{Chunk, chunk}
 use Rattle.pairs.specs.Pairs.{chunksFrom}
 
 module _ (fudged : Bool) (s : List ℕ) where

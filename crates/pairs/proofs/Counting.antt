@@ -6,8 +6,8 @@ use native.Mathlib.Omega.{arith}
 use mathlib.Core.List.{List}
 use Rattle.parser.specs.Parser.{short, parse}
 use Rattle.parser.specs.Walk.{sum}
-use Rattle.profile.specs.Profile.{points, chunk}
-use Rattle.profile.specs.declared.Profile.{Profile}
+use Rattle.packet_profile.specs.Profile.{points, chunk}
+use Rattle.packet_profile.specs.declared.Profile.{Profile}
 use Rattle.pairs.specs.Pairs.{chunksFrom, chunksOf}
 use Rattle.pairs.specs.declared.Signal.{Signal}
 use Rattle.pairs.proofs.Signals.{There, points-at}

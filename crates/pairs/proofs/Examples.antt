@@ -7,8 +7,8 @@ use lib.IntN.{pos, negsuc}
 use lib.Ieee.{Float, fin, binary64, round, ofBits, toBits, ofInt, add, mul, eq}
 use Rattle.lists.specs.Written.{each}
 use Rattle.parser.specs.Parser.{parse, repeat}
-use Rattle.profile.specs.Profile.{head, values, chunk}
-use Rattle.profile.specs.declared.Profile.{Profile}
+use Rattle.packet_profile.specs.Profile.{head, values, chunk}
+use Rattle.packet_profile.specs.declared.Profile.{Profile}
 use Rattle.peaks.specs.Peaks.{peaksAt}
 use Rattle.calibration.specs.Convert.{freqToMz, mzOf}
 use Rattle.pairs.specs.Pairs.{chunksFrom, pairAt, pairsOf, profilePairs, peakPairs}

@@ -9,10 +9,10 @@ use Rattle.refusal.specs.Outcome.{ok}
 use Rattle.parser.specs.Parser.{parsed, parse, repeat}
 use Rattle.parser.specs.Walk.{sum}
 use Rattle.parser.proofs.Walk.{first-of}
-use Rattle.profile.specs.Profile.{Chunk, points, chunk, located, readProfile}
-use Rattle.profile.specs.declared.Profile.{Profile}
-use Rattle.profile.proofs.Answers.{profiled}
-use Rattle.profile.proofs.LongerBytes.{same-chunks}
+use Rattle.packet_profile.specs.Profile.{Chunk, points, chunk, located, readProfile}
+use Rattle.packet_profile.specs.declared.Profile.{Profile}
+use Rattle.packet_profile.proofs.Answers.{profiled}
+use Rattle.packet_profile.proofs.LongerBytes.{same-chunks}
 use Rattle.pairs.specs.Pairs.{chunksFrom, chunksOf, binsOf, pairsOf, profilePairs}
 use Rattle.pairs.proofs.Writing.{length-pairs}
 

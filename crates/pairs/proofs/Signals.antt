@@ -5,10 +5,10 @@ use native.Mathlib.Omega.{arith}
 use mathlib.Core.Bool.{Bool}
 use mathlib.Core.List.{List}
 use Rattle.lists.proofs.Laws.{length-each}
-use Rattle.parser.specs.Parser.{Parsed, short, parsed, bytes, le, left, parse}
-use Rattle.profile.specs.Profile.{headSize, Chunk, points, chunk}
-use Rattle.profile.proofs.Chunks.{chunkAt, chunk-short-head, chunk-short, chunk-parsed, whole-chunk}
-use Rattle.pairs.specs.Stored.{signalOf}
+use Rattle.parser.specs.Parser.{Parsed, short, parsed, bytes, littleEndian, left, parse}
+use Rattle.packet_profile.specs.Profile.{headSize, Chunk, points, chunk}
+use Rattle.packet_profile.proofs.Chunks.{chunkAt, chunk-short-head, chunk-short, chunk-parsed, whole-chunk}
+use Rattle.pairs.specs.Internal.{signalOf}
 use Rattle.pairs.specs.declared.Signal.{Signal as Place}
 use Rattle.pairs.specs.declared.SignalAnswer.the-variants.{Signal, Short}
 
@@ -19,7 +19,7 @@ module _ (fudged : Bool) (s : List ℕ) (at : ℕ) where
   pub no-head : left s at < headSize fudged → Short ≡ signalOf fudged at (parse (chunk fudged) s at)
   no-head t = rw (chunk-short-head fudged s at t)
 
-  module _ (n : ℕ) (e : n ≡ le (bytes s (at + 4) 4)) (t : headSize fudged ≤ left s at) where
+  module _ (n : ℕ) (e : n ≡ littleEndian (bytes s (at + 4) 4)) (t : headSize fudged ≤ left s at) where
     pub no-signal : left s (at + headSize fudged) < n * 4 → Short ≡ signalOf fudged at (parse (chunk fudged) s at)
     no-signal u = rw (chunk-short fudged s at n e t u)
 
@@ -37,9 +37,9 @@ module _ (fudged : Bool) (s : List ℕ) (at : ℕ) where
   there-of v short e h = let c : _≡_ {A = ℕ} 0 1 = cc in absurd (omega arith)
   there-of v (parsed c next) e h =
       let same : _≡_ {A = Place} v (record { at = at + headSize fudged; points = points c; end = next }) = cc in
-      let w = whole-chunk fudged s at (le (bytes s (at + 4) 4)) refl e in
-      let n : points c ≡ le (bytes s (at + 4) 4) = ap points (w .is) ∙ points-at fudged s at (le (bytes s (at + 4) 4)) in
-      let size : v .points ≡ le (bytes s (at + 4) 4) = ap (λ (p : Place). p .points) same ∙ n in
+      let w = whole-chunk fudged s at (littleEndian (bytes s (at + 4) 4)) refl e in
+      let n : points c ≡ littleEndian (bytes s (at + 4) 4) = ap points (w .is) ∙ points-at fudged s at (littleEndian (bytes s (at + 4) 4)) in
+      let size : v .points ≡ littleEndian (bytes s (at + 4) 4) = ap (λ (p : Place). p .points) same ∙ n in
       let end : v .end ≡ next = ap (λ (p : Place). p .end) same in
       let start : v .at ≡ at + headSize fudged = ap (λ (p : Place). p .at) same in
       record { here = rw (size, end) (e ∙ ap (λ (d : Chunk). parsed d next) (w .is)); starts = start; ends = rw (start, size) (end ∙ w .end) }

@@ -1,4 +1,4 @@
--- A loop that writes the pairs of a profile's chunks, each chunk's through the tails behind those of the chunk before.
+-- A loop that writes the pairs of a profile's chunks, each chunk's through the tails after those of the chunk before.
 use mathlib.Core.Path.{_≡_, refl, ap, sym, _∙_}
 use Prim.Native.Nat.{ℕ, zero, suc, _+_, _*_, _-_, _≤_, _<_}
 use native.Mathlib.Nat.{sub-zero}
@@ -9,13 +9,13 @@ use lib.Ieee.{Float, binary32, ofBits}
 use lib.ListN.{length, take, drop, length-append, length-map, length-take, length-drop}
 use Rattle.refusal.specs.declared.CountAnswer.{CountAnswer}
 use Rattle.lists.specs.Written.{each, over}
-use Rattle.lists.specs.Left.{firsts, seconds, handOutPairs, LeftPairs}
+use Rattle.lists.specs.Left.{firsts, seconds, pairsIfFit, LeftPairs}
 use Rattle.lists.proofs.Laws.{length-each, getD-each, over-none, over-tail, length-over}
-use Rattle.parser.specs.Parser.{short, bytes, le, parse}
+use Rattle.parser.specs.Parser.{short, bytes, littleEndian, parse}
 use Rattle.parser.specs.Walk.{sum}
-use Rattle.profile.specs.Profile.{headSize, Chunk, points, chunk, fudgeAt}
-use Rattle.profile.specs.declared.Profile.{Profile}
-use Rattle.profile.proofs.Chunks.{chunkAt}
+use Rattle.packet_profile.specs.Profile.{headSize, Chunk, points, chunk, fudgeAt}
+use Rattle.packet_profile.specs.declared.Profile.{Profile}
+use Rattle.packet_profile.proofs.Chunks.{chunkAt}
 use Rattle.calibration.specs.Convert.{mzOf, chunkPairs}
 use Rattle.calibration.specs.declared.Bins.{Bins}
 use Rattle.calibration.proofs.Columns.{pairs-room}
@@ -40,14 +40,14 @@ module _ (bins : Bins) (coefficients : List ℕ) where
   length-pairs (c ∷ others) = length-append (pairsIn c) (pairsOf bins coefficients others) ∙ rw (length-each, length-pairs others)
 
   written-pairs : (fudged : Bool) (s : List ℕ) (at n : ℕ)
-      → chunkPairs bins (le (bytes s at 4)) (fudgeAt fudged s at) coefficients s (at + headSize fudged) n ≡ pairsIn (chunkAt fudged s at n)
+      → chunkPairs bins (littleEndian (bytes s at 4)) (fudgeAt fudged s at) coefficients s (at + headSize fudged) n ≡ pairsIn (chunkAt fudged s at n)
   unfolding chunkPairs pairAt
   written-pairs fudged s at n =
       rw (points-at fudged s at n)
       (each-below _ _ n
       (λ i l.
-      ap (λ (b : ℕ). (mzOf bins (le (bytes s at 4)) (fudgeAt fudged s at) coefficients i, ofBits binary32 b))
-      (sym (getD-each (λ k. le (bytes s (at + headSize fudged + k * 4) 4)) n i 0 l))))
+      ap (λ (b : ℕ). (mzOf bins (littleEndian (bytes s at 4)) (fudgeAt fudged s at) coefficients i, ofBits binary32 b))
+      (sym (getD-each (λ k. littleEndian (bytes s (at + headSize fudged + k * 4) 4)) n i 0 l))))
 
 -- there is a pair for each value of the chunks
 pub counted : (p : Profile) (coefficients s : List ℕ) → length (profilePairs p coefficients s) ≡ sum points (chunksOf p s)
@@ -128,9 +128,9 @@ module _ (p : Profile) (coefficients s : List ℕ) (mz₀ intensity₀ : List Fl
           sym (counted p coefficients s) ∙ ap length more ∙ length-append (w .pairs ++ new) _ in
           omega (arith, w .count, length-append (w .pairs) new, size-new)
 
-      pub writing-more : (firstBin fudge : ℕ) → firstBin ≡ le (bytes s at 4) → fudge ≡ fudgeAt (p .fudged) s at → (r : CountAnswer) (ys zs : List Float) (k l : ℕ)
+      pub writing-more : (firstBin fudge : ℕ) → firstBin ≡ littleEndian (bytes s at 4) → fudge ≡ fudgeAt (p .fudged) s at → (r : CountAnswer) (ys zs : List Float) (k l : ℕ)
           → k ≡ length mz - n → l ≡ length intensity - n
-          → LeftPairs (λ a b. handOutPairs a b (chunkPairs (binsOf p) firstBin fudge coefficients s (v .at) (v .points))) (take k (drop n mz)) (take l (drop n intensity)) r ys zs
+          → LeftPairs (λ a b. pairsIfFit a b (chunkPairs (binsOf p) firstBin fudge coefficients s (v .at) (v .points))) (take k (drop n mz)) (take l (drop n intensity)) r ys zs
           → Writing (take n mz ++ (ys ++ drop k (drop n mz))) (take n intensity ++ (zs ++ drop l (drop n intensity))) (n + v .points) (i + 1) (v .end)
       unfolding new
       writing-more firstBin fudge hb hf r ys zs k l hk hl left =

@@ -6,8 +6,8 @@ use lib.Ieee.{Float, binary32, binary64, ofBits}
 use lib.ListN.{getD}
 use Rattle.lists.specs.Written.{each}
 use Rattle.parser.specs.Parser.{Parsed, short, parsed, parse}
-use Rattle.profile.specs.Profile.{Chunk, points, chunk}
-use Rattle.profile.specs.declared.Profile.{Profile}
+use Rattle.packet_profile.specs.Profile.{Chunk, points, chunk}
+use Rattle.packet_profile.specs.declared.Profile.{Profile}
 use Rattle.peaks.specs.Peaks.{Peak}
 use Rattle.calibration.specs.Convert.{mzOf}
 use Rattle.calibration.specs.declared.Bins.{Bins}
@@ -16,15 +16,15 @@ use Rattle.calibration.specs.declared.Bins.{Bins}
 abbrev pub Pair : Type 0
 Pair = Float × Float
 
--- a chunk and those behind it, or none where it is not there
-abbrev pub andBehind : Parsed Chunk → (ℕ → List Chunk) → List Chunk
-andBehind short behind = []
-andBehind (parsed c next) behind = c ∷ behind next
+-- a chunk and those after it, or none where it is not there
+abbrev pub andAfter : Parsed Chunk → (ℕ → List Chunk) → List Chunk
+andAfter short beyond = []
+andAfter (parsed c next) beyond = c ∷ beyond next
 
 -- n chunks from a place on, as far as the run has them
 unfoldable pub chunksFrom : Bool → List ℕ → ℕ → ℕ → List Chunk
 chunksFrom fudged s zero at = []
-chunksFrom fudged s (suc n) at = andBehind (parse (chunk fudged) s at) (chunksFrom fudged s n)
+chunksFrom fudged s (suc n) at = andAfter (parse (chunk fudged) s at) (chunksFrom fudged s n)
 
 -- a profile's chunks. All of them are there where the profile was read from this run
 abbrev pub chunksOf : Profile → List ℕ → List Chunk

@@ -4,22 +4,22 @@ ghost use mathlib.Core.Path.{_≡_};
 ghost use mathlib.Core.Bool.{cond};
 ghost use Prim.Native.Nat.{_+_, _*_, _≤_};
 ghost use lib.ListN.{length};
-ghost use Rattle.lists.specs.Left.{firsts, seconds, handOutPairs, LeftPairs};
+ghost use Rattle.lists.specs.Left.{firsts, seconds, pairsIfFit, LeftPairs};
 ghost use Rattle.lists.specs.Written.{each, over};
 ghost use Rattle.parser.specs.Parser.{parse};
 ghost use Rattle.parser.specs.Walk.{sum};
-ghost use Rattle.profile.specs.Profile.{points as pointsOf, chunk};
+ghost use Rattle.packet_profile.specs.Profile.{points as pointsOf, chunk};
 ghost use Rattle.peaks.specs.Peaks.{peaksAt};
 ghost use Rattle.pairs.specs.Pairs.{chunksOf, profilePairs, peakPairs};
-ghost use Rattle.pairs.specs.Stored.{signalOf, floatAt};
+ghost use Rattle.pairs.specs.Internal.{signalOf, floatAt};
 use calibration::Bins;
 use calibration::write_chunk;
-use floats::f64_of_bits;
-use floats::widened;
+use float_bits::f64_of_bits;
+use float_bits::widened;
 use lists::holds;
-use profile::Profile;
-use profile::fudge_at;
-use profile::head_size;
+use packet_profile::Profile;
+use packet_profile::fudge_at;
+use packet_profile::head_size;
 use reader::remaining;
 use reader::saturating_add;
 use reader::u32_at;
@@ -27,7 +27,7 @@ use reader::u64_at;
 use refusal::CountAnswer;
 use refusal::Refusal;
 
-// Where a chunk's signal stands, how many values it has, and the place behind it.
+// Where a chunk's signal stands, how many values it has, and the place after it.
 struct Signal {
     at: u64,
     points: u64,
@@ -126,7 +126,7 @@ pub fn to_mz_intensity(
     mz: &mut [f64],
     intensity: &mut [f64],
 ) -> CountAnswer
-    ensures { λ r. ⌜ LeftPairs (λ m i. handOutPairs m i (profilePairs profile (now (coefficients .entry)) (now (run .entry)))) (now (mz .entry)) (now (intensity .entry)) r (now (mz .exit)) (now (intensity .exit)) ⌝ }
+    ensures { λ r. ⌜ LeftPairs (λ m i. pairsIfFit m i (profilePairs profile (now (coefficients .entry)) (now (run .entry)))) (now (mz .entry)) (now (intensity .entry)) r (now (mz .exit)) (now (intensity .exit)) ⌝ }
 {
     let pairs = count_pairs(run, profile);
     if holds(
@@ -173,7 +173,7 @@ fn mz_size(wide: bool) -> u64
     if wide { 8 } else { 4 }
 }
 
-// The pairs of n peaks, each `stride` bytes behind the one before: an m/z, and right behind it the abundance.
+// The pairs of n peaks, each `stride` bytes after the one before: an m/z, and right after it the abundance.
 pub fn peak_pairs(
     run: &[u8],
     at: u64,
@@ -183,12 +183,12 @@ pub fn peak_pairs(
     mz: &mut [f64],
     intensity: &mut [f64],
 ) -> CountAnswer
-    ensures { λ r. ⌜ LeftPairs (λ m i. handOutPairs m i (peakPairs (peaksAt wide stride (now (run .entry)) at n))) (now (mz .entry)) (now (intensity .entry)) r (now (mz .exit)) (now (intensity .exit)) ⌝ }
+    ensures { λ r. ⌜ LeftPairs (λ m i. pairsIfFit m i (peakPairs (peaksAt wide stride (now (run .entry)) at n))) (now (mz .entry)) (now (intensity .entry)) r (now (mz .exit)) (now (intensity .exit)) ⌝ }
 {
     if holds(n, mz.len() as u64, holds(n, intensity.len() as u64, true)) {
         copy_floats(run, at, stride, n, wide, mz);
-        let behind = saturating_add(at, mz_size(wide));
-        copy_floats(run, behind, stride, n, false, intensity);
+        let beyond = saturating_add(at, mz_size(wide));
+        copy_floats(run, beyond, stride, n, false, intensity);
         return CountAnswer::Count(n);
     }
     CountAnswer::Refused(Refusal::NoRoom)

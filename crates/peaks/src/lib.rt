@@ -2,12 +2,12 @@
 // flat records and SRM records hand their peaks out here.
 ghost use mathlib.Core.Path.{_≡_};
 ghost use Prim.Native.Nat.{_+_, _*_};
-ghost use Rattle.lists.specs.Left.{firsts, seconds, handOutPairs, LeftList, LeftPairs};
+ghost use Rattle.lists.specs.Left.{firsts, seconds, pairsIfFit, LeftList, LeftPairs};
 ghost use Rattle.lists.specs.Written.{each, fitting};
-ghost use Rattle.parser.specs.Parser.{bytes, le};
+ghost use Rattle.parser.specs.Parser.{bytes, littleEndian, wordAt};
 ghost use Rattle.peaks.specs.Peaks.{widenedBits, peaksAt};
-use floats::bits_of_f64;
-use floats::widened;
+use float_bits::bits_of_f64;
+use float_bits::widened;
 use lists::holds;
 use reader::copy_u32s;
 use reader::copy_u64s;
@@ -30,7 +30,7 @@ fn widened_bits(bits: u32) -> u64
 
 // Masses that are stored as f32, over the front of a lent slice that holds them.
 fn copy_widened(run: &[u8], at: u64, stride: u64, n: u64, out: &mut [u64]) -> CountAnswer
-    ensures { λ r. ⌜ LeftList (each (λ i. widenedBits (le (bytes (now (run .entry)) (at + i * stride) 4))) n) (now (out .entry)) r (now (out .exit)) ⌝ }
+    ensures { λ r. ⌜ LeftList (each (λ i. widenedBits (wordAt (now (run .entry)) (at + i * stride) 4)) n) (now (out .entry)) r (now (out .exit)) ⌝ }
 {
     if n > out.len() as u64 {
         return CountAnswer::Refused(Refusal::NoRoom);
@@ -46,7 +46,7 @@ fn copy_widened(run: &[u8], at: u64, stride: u64, n: u64, out: &mut [u64]) -> Co
     CountAnswer::Count(n)
 }
 
-// The columns of n peaks, each `stride` bytes behind the one before: an m/z, and right behind it the abundance.
+// The columns of n peaks, each `stride` bytes after the one before: an m/z, and right after it the abundance.
 fn write_peaks(
     run: &[u8],
     at: u64,
@@ -78,7 +78,7 @@ pub fn hand_out(
     mz: &mut [u64],
     abundance: &mut [u32],
 ) -> CountAnswer
-    ensures { λ r. ⌜ LeftPairs (λ m a. handOutPairs m a (peaksAt wide stride (now (run .entry)) at n)) (now (mz .entry)) (now (abundance .entry)) r (now (mz .exit)) (now (abundance .exit)) ⌝ }
+    ensures { λ r. ⌜ LeftPairs (λ m a. pairsIfFit m a (peaksAt wide stride (now (run .entry)) at n)) (now (mz .entry)) (now (abundance .entry)) r (now (mz .exit)) (now (abundance .exit)) ⌝ }
 {
     if holds(n, mz.len() as u64, holds(n, abundance.len() as u64, true)) {
         write_peaks(run, at, stride, n, wide, mz, abundance);

@@ -93,11 +93,11 @@ pub(crate) fn bits64(out: &mut [u8], n: usize, bits: u64) -> usize {
 
 // A float as its bits, any NaN as one.
 pub(crate) fn float32(out: &mut [u8], n: usize, x: f32) -> usize {
-    bits32(out, n, floats::bits_of_f32(x))
+    bits32(out, n, float_bits::bits_of_f32(x))
 }
 
 pub(crate) fn float64(out: &mut [u8], n: usize, x: f64) -> usize {
-    bits64(out, n, floats::bits_of_f64(x))
+    bits64(out, n, float_bits::bits_of_f64(x))
 }
 
 pub(crate) fn ok_number(out: &mut [u8], n: usize, value: u64) -> usize {

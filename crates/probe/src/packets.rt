@@ -7,12 +7,12 @@ use crate::request::U64;
 use packet_full::read_packet;
 use packet_header::HeaderAnswer;
 use packet_header::PacketHeader;
+use packet_peak_list::read_peaks_only;
+use packet_profile::Profile;
+use packet_record::PacketAnswer;
+use packet_record::PacketProfile;
+use packet_record::ScanDataPacket;
 use packet_skipping::read_skip_profile;
-use peak_list::read_peaks_only;
-use profile::Profile;
-use scan_packet::PacketAnswer;
-use scan_packet::PacketProfile;
-use scan_packet::ScanDataPacket;
 
 // The fields of a header: the first three, and all.
 fn put_sizes(out: &mut [u8], n: usize, h: PacketHeader) -> usize {

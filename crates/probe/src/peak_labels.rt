@@ -6,14 +6,14 @@ use crate::request;
 use crate::request::LENT;
 use crate::request::Lengths;
 use crate::request::U64;
-use narrow::narrowed;
+use float_narrow::narrowed;
 use noise::NoiseAnswer;
 use noise::label_peaks;
 use noise::noise_at;
 use packet_noise::label_packet_peaks;
+use packet_record::PacketAnswer;
 use packet_skipping::read_skip_profile;
 use refusal::CountAnswer;
-use scan_packet::PacketAnswer;
 
 pub(crate) fn narrow(line: &[u8], at: usize, out: &mut [u8], n: usize) -> usize {
     let field = request::number(line, at, U64);
@@ -21,7 +21,7 @@ pub(crate) fn narrow(line: &[u8], at: usize, out: &mut [u8], n: usize) -> usize 
         return answer::bad(out, n);
     }
     let n = answer::ok(out, n);
-    answer::float32(out, n, narrowed(floats::f64_of_bits(field.value)))
+    answer::float32(out, n, narrowed(float_bits::f64_of_bits(field.value)))
 }
 
 fn put_noise(out: &mut [u8], n: usize, answer: NoiseAnswer) -> usize {
@@ -42,7 +42,7 @@ pub(crate) fn noise(line: &[u8], at: usize, data: &mut [u8], out: &mut [u8], n: 
         return answer::bad(out, n);
     }
     let nodes = request::front(data, count.value);
-    put_noise(out, n, noise_at(floats::f64_of_bits(mz.value), nodes))
+    put_noise(out, n, noise_at(float_bits::f64_of_bits(mz.value), nodes))
 }
 
 // The slices lent for labels.
@@ -149,7 +149,7 @@ pub(crate) fn packet_noise(
         &mut descriptors,
         &mut resolutions,
     );
-    put_packet_noise(out, n, run, packet, floats::f64_of_bits(mz.value))
+    put_packet_noise(out, n, run, packet, float_bits::f64_of_bits(mz.value))
 }
 
 // Labels for the peaks of a packet, whose masses stand at the front of a slice.

@@ -4,7 +4,7 @@ use crate::request;
 use crate::request::U32;
 use codes::Activation;
 use codes::Code;
-use preamble::ScanEventPreamble;
+use event_preamble::ScanEventPreamble;
 
 pub(crate) fn preamble_size(line: &[u8], at: usize, out: &mut [u8], n: usize) -> usize {
     let version = request::number(line, at, U32);
@@ -12,7 +12,7 @@ pub(crate) fn preamble_size(line: &[u8], at: usize, out: &mut [u8], n: usize) ->
         return answer::bad(out, n);
     }
     let version = request::narrow(version.value);
-    answer::ok_number(out, n, preamble::size_for_version(version))
+    answer::ok_number(out, n, event_preamble::size_for_version(version))
 }
 
 // A code as one field.
@@ -69,7 +69,7 @@ pub(crate) fn preamble(line: &[u8], at: usize, data: &mut [u8], out: &mut [u8], 
     if count.end != line.len() {
         return answer::bad(out, n);
     }
-    let settings = preamble::decode(request::front(data, count.value));
+    let settings = event_preamble::decode(request::front(data, count.value));
     let n = answer::ok(out, n);
     put_settings(out, n, settings)
 }

@@ -5,9 +5,9 @@ use crate::request;
 use crate::request::Lengths;
 use crate::request::U32;
 use crate::request::U64;
+use packet_profile::Profile;
+use packet_profile::ProfileAnswer;
 use pairs::to_mz_intensity;
-use profile::Profile;
-use profile::ProfileAnswer;
 use refusal::CountAnswer;
 
 pub(crate) fn freq_to_mz(
@@ -24,7 +24,7 @@ pub(crate) fn freq_to_mz(
         return answer::bad(out, n);
     }
     let k = request::lent_length(list.value);
-    let mz = calibration::freq_to_mz(floats::f64_of_bits(freq.value), &coefficients[0..k]);
+    let mz = calibration::freq_to_mz(float_bits::f64_of_bits(freq.value), &coefficients[0..k]);
     let n = answer::ok(out, n);
     answer::float64(out, n, mz)
 }

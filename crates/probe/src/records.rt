@@ -3,10 +3,10 @@ use crate::answer;
 use crate::request;
 use crate::request::U32;
 use crate::request::U64;
-use flat::read_flat_peaks;
 use refusal::CountAnswer;
-use srm::read_scan_srm_v66;
-use srm::read_scan_srm_v66_windows;
+use srm_flat_peaks::read_flat_peaks;
+use srm_scan::read_scan_srm_v66;
+use srm_scan::read_scan_srm_v66_windows;
 
 // Which function reads the peaks, and what it is given beside the run and the two places.
 enum Reading {

@@ -161,7 +161,7 @@ fn list64(line: &[u8], at: usize, data: &mut [u8]) -> Field {
     }
 }
 
-// The same, and the numbers at the front of `out`. What stands behind them is not used.
+// The same, and the numbers at the front of `out`. What stands after them is not used.
 pub(crate) fn u64s(line: &[u8], at: usize, data: &mut [u8], out: &mut [u64]) -> Field {
     let list = list64(line, at, data);
     reader::copy_u64s(data, 0, 8, list.value, out);
@@ -193,7 +193,7 @@ fn copy_u16s(list: &[u8], out: &mut [u16]) {
     }
 }
 
-// The same, and the numbers at the front of `out`. What stands behind them is not used.
+// The same, and the numbers at the front of `out`. What stands after them is not used.
 pub(crate) fn u16s(line: &[u8], at: usize, data: &mut [u8], out: &mut [u16]) -> Field {
     let list = list16(line, at, data);
     copy_u16s(data, out);
@@ -288,7 +288,7 @@ pub(crate) fn fill64(lent: &mut [u64]) {
 pub(crate) fn fill_f64(lent: &mut [f64]) {
     let mut i: usize = 0;
     while i < lent.len() {
-        lent[i] = floats::f64_of_bits(0xa5a5_a5a5_0000_0000 + (i as u64) % 0x1_0000_0000);
+        lent[i] = float_bits::f64_of_bits(0xa5a5_a5a5_0000_0000 + (i as u64) % 0x1_0000_0000);
         i = i + 1;
     }
 }

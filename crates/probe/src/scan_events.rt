@@ -8,9 +8,9 @@ use crate::request::PREAMBLE;
 use crate::request::U32;
 use crate::request::U64;
 use event_counted::read_counted_v66;
-use scan_event::EventAnswer;
-use scan_event::ScanEvent;
-use window::Window;
+use event_record::EventAnswer;
+use event_record::ScanEvent;
+use event_window::Window;
 
 // Which function reads the event, and what it is given beside the run and the place.
 enum Reading {
@@ -57,8 +57,8 @@ fn put_window(out: &mut [u8], n: usize, window: Window) -> usize {
         }
         Window::Ends(low, high) => {
             let n = answer::flag(out, n, true);
-            let n = answer::bits64(out, n, floats::bits_of_f64(low));
-            answer::bits64(out, n, floats::bits_of_f64(high))
+            let n = answer::bits64(out, n, float_bits::bits_of_f64(low));
+            answer::bits64(out, n, float_bits::bits_of_f64(high))
         }
     }
 }

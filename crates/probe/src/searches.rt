@@ -6,11 +6,11 @@ use crate::request::LENT;
 use crate::request::Lengths;
 use crate::request::U16;
 use crate::request::U64;
-use channels::flatv66_event_channels;
-use transition::EventTransitionAnswer;
-use transition::TransitionAnswer;
-use transition::flatv66_event_transition;
-use transition::search_v63_transition;
+use srm_channels::flatv66_event_channels;
+use srm_transition::EventTransitionAnswer;
+use srm_transition::TransitionAnswer;
+use srm_transition::flatv66_event_transition;
+use srm_transition::search_v63_transition;
 
 fn put_transition(out: &mut [u8], n: usize, answer: TransitionAnswer) -> usize {
     match answer {
@@ -31,7 +31,7 @@ pub(crate) fn v63(line: &[u8], at: usize, data: &mut [u8], out: &mut [u8], n: us
         return answer::bad(out, n);
     }
     let run = request::front(data, count.value);
-    let answer = search_v63_transition(run, floats::f64_of_bits(target.value));
+    let answer = search_v63_transition(run, float_bits::f64_of_bits(target.value));
     put_transition(out, n, answer)
 }
 
@@ -60,7 +60,7 @@ pub(crate) fn event_transition(
     }
     let run = request::front(data, count.value);
     let event = (event.value % 0x1_0000) as u16;
-    let answer = flatv66_event_transition(run, event, floats::f64_of_bits(q3_hi.value));
+    let answer = flatv66_event_transition(run, event, float_bits::f64_of_bits(q3_hi.value));
     put_event_transition(out, n, answer)
 }
 

@@ -49,12 +49,12 @@ fn put_counted(out: &mut [u8], n: usize, run: &[u8], place: u64, size: u64) -> u
     let WordAnswer::Value(count) = read_u32_le(run, place) else {
         return answer::put(out, n, b"refused 1");
     };
-    let behind = reader::saturating_add(place, 4);
-    match check_count_at(run, behind, count, size) {
+    let beyond = reader::saturating_add(place, 4);
+    match check_count_at(run, beyond, count, size) {
         BytesAnswer::Short => answer::put(out, n, b"refused 1"),
         BytesAnswer::There => {
             let n = answer::ok_number(out, n, count);
-            answer::number(out, n, behind)
+            answer::number(out, n, beyond)
         }
     }
 }
@@ -78,18 +78,18 @@ pub(crate) fn counted_list(
 
 // A NaN has many patterns and one value, so only another number's bits go by way of its value.
 fn bits_again64(bits: u64) -> u64 {
-    if floats::is_nan64(bits) {
+    if float_bits::is_nan64(bits) {
         bits
     } else {
-        floats::bits_of_f64(floats::f64_of_bits(bits))
+        float_bits::bits_of_f64(float_bits::f64_of_bits(bits))
     }
 }
 
 fn bits_again32(bits: u32) -> u32 {
-    if floats::is_nan32(bits) {
+    if float_bits::is_nan32(bits) {
         bits
     } else {
-        floats::bits_of_f32(floats::f32_of_bits(bits))
+        float_bits::bits_of_f32(float_bits::f32_of_bits(bits))
     }
 }
 
@@ -100,8 +100,8 @@ pub(crate) fn float64(line: &[u8], at: usize, out: &mut [u8], n: usize) -> usize
     }
     let bits = field.value;
     let n = answer::ok(out, n);
-    let n = answer::flag(out, n, floats::is_nan64(bits));
-    let n = answer::flag(out, n, floats::is_finite64(bits));
+    let n = answer::flag(out, n, float_bits::is_nan64(bits));
+    let n = answer::flag(out, n, float_bits::is_finite64(bits));
     answer::bits64(out, n, bits_again64(bits))
 }
 
@@ -112,10 +112,10 @@ pub(crate) fn float32(line: &[u8], at: usize, out: &mut [u8], n: usize) -> usize
     }
     let bits = request::narrow(field.value);
     let n = answer::ok(out, n);
-    let n = answer::flag(out, n, floats::is_nan32(bits));
-    let n = answer::flag(out, n, floats::is_finite32(bits));
+    let n = answer::flag(out, n, float_bits::is_nan32(bits));
+    let n = answer::flag(out, n, float_bits::is_finite32(bits));
     let n = answer::bits32(out, n, bits_again32(bits));
-    answer::bits64(out, n, floats::bits_of_f64(floats::widened(bits)))
+    answer::bits64(out, n, float_bits::bits_of_f64(float_bits::widened(bits)))
 }
 
 pub(crate) fn ten_thousandths(line: &[u8], at: usize, out: &mut [u8], n: usize) -> usize {
@@ -123,6 +123,6 @@ pub(crate) fn ten_thousandths(line: &[u8], at: usize, out: &mut [u8], n: usize) 
     if bits.end != line.len() {
         return answer::bad(out, n);
     }
-    let mz = floats::f64_of_bits(bits.value);
-    answer::count(out, n, ten_thousandths::ten_thousandths(mz))
+    let mz = float_bits::f64_of_bits(bits.value);
+    answer::count(out, n, float_ten_thousandths::ten_thousandths(mz))
 }

@@ -11,33 +11,33 @@ use lib.Dec.{ltb, lit<}
 use lib.ListN.{length, drop}
 use borrow.Author.Tests.{ltb-true}
 use Rattle.refusal.specs.Outcome.{Outcome, ok, refused, ranOut}
-use Rattle.refusal.specs.Number.{toldCount}
-use Rattle.refusal.proofs.Told.{count-one}
+use Rattle.refusal.specs.Number.{outcomeOfCount}
+use Rattle.refusal.proofs.OneAnswer.{count-one}
 use Rattle.parser.specs.Parser.{Parser, _>>_, skip, parsed, parse, repeat}
 use Rattle.parser.specs.Call.{Call, answer, part, outcome}
 use Rattle.parser.specs.LongerBytes.{Bytes, OnLongerBytes, PrefixProperty, Names, CompletesOn, Completes}
 use Rattle.parser.proofs.Fixed.{sized-raw}
-use Rattle.parser.proofs.Completion.{Bounded, bounded-more, yields-parsed, drop-bytes}
-use Rattle.parser.proofs.Asks.{Any, asks-sized, asks-bind, asks-repeat}
+use Rattle.parser.proofs.Completion.{Bounded, bounded-more, invariant-parsed, drop-bytes}
+use Rattle.parser.proofs.DemandBound.{Any, demand-sized, demand-bind, demand-repeat}
 use Rattle.parser.proofs.Calls.{Avoids, Covers}
-use Rattle.parser.proofs.Behind.{behind-prefix, head-completes, behind-completes}
+use Rattle.parser.proofs.PrefixedBy.{after-prefix, head-completes, after-completes}
 use Rattle.parser.proofs.OnLongerBytes.{plain-longer, left-longer}
 use Rattle.scan_index.specs.Entry.{entrySize, readEntry}
 use Rattle.scan_index.specs.Entry as Entry
 use Rattle.scan_index.specs.declared.ScanIndexEntry.{ScanIndexEntry}
 use Rattle.scan_index.proofs.Size.{entry-most, entry-sized}
 use Rattle.scan_index.proofs.LongerBytes.{entry-sizable}
-use Rattle.scan_event.specs.Event.{Event}
-use Rattle.event_walk.proofs.LongerBytes.{event-asks}
+use Rattle.event_record.specs.Event.{Event}
+use Rattle.event_walk.proofs.LongerBytes.{event-demand}
 use Rattle.tray_header.specs.Header.{readHeader}
 use Rattle.tray_header.specs.declared.TrayHeader.{TrayHeader}
 use Rattle.tray_header.proofs.Found.{Whole, whole, words}
 use Rattle.tray_header.proofs.LongerBytes.{header-prefix, header-names, header-completes}
 use Rattle.tray_data.specs.Data.{dataStart}
-use Rattle.tray_data.proofs.LongerBytes.{data-bounded, finding-settled}
-use Rattle.tray_scan.proofs.LongerBytes.{PartsIn, parts-names, settled, event-bounded}
-use Rattle.tray_scan.proofs.Told.{scan-told-one}
-use Rattle.tray_scan.specs.Scan.{formatIn, eventIn, Lengths, Decoded, handOut, withData, eventAndData, told, Slices, lengthsOf, written, Answers}
+use Rattle.tray_data.proofs.LongerBytes.{data-bounded, finding-not-truncated}
+use Rattle.tray_scan.proofs.LongerBytes.{PartsIn, parts-names, notTruncated, event-bounded}
+use Rattle.tray_scan.proofs.OneAnswer.{scan-answer-one}
+use Rattle.tray_scan.specs.Scan.{formatIn, eventIn, Lengths, Decoded, handOut, withData, eventAndData, outcomeOf, Slices, lengthsOf, written, Answers}
 use Rattle.tray.specs.Scan.{entryIn, kthEvent, scanIn, scanFrom, placeIn, endIn, numbered, overRun, scanOf, scanFromOf, placeOf, endOf}
 use Rattle.tray.proofs.Parts.{entry-alone}
 
@@ -59,23 +59,23 @@ module _ (h : TrayHeader) (k : ℕ) (few : k < 2 ^ 16) where
       let n = k * entrySize (h .version) in
       let size = entrySize (h .version) in
       bounded-more (2 ^ 62) (n + size) (2 ^ 61) (skip n >> Entry.entry (h .version)) (omega (arith, mul-le-mul-left k (entry-most (h .version)), entry-most (h .version)))
-      (asks-bind (2 ^ 62) n size Any Any (λ _. Entry.entry (h .version)) (λ _ _. asks-sized (2 ^ 62) size (Entry.entry (h .version)) (entry-sized (h .version)))
-      (skip n) (asks-sized (2 ^ 62) n (skip n) (sized-raw n)) .bounded)
+      (demand-bind (2 ^ 62) n size Any Any (λ _. Entry.entry (h .version)) (λ _ _. demand-sized (2 ^ 62) size (Entry.entry (h .version)) (entry-sized (h .version)))
+      (skip n) (demand-sized (2 ^ 62) n (skip n) (sized-raw n)) .bounded)
 
   module _ (p : h .primary < 2 ^ 32) (d : h .dependent < 2 ^ 32) where
     events-bounded : Bounded (2 ^ 62) (2 ^ 61) (repeat k (eventIn h))
     events-bounded =
-        let one = event-asks (h .version) (h .primary) (h .dependent) p d in
+        let one = event-demand (h .version) (h .primary) (h .dependent) p d in
         bounded-more (2 ^ 62) (2 ^ 39 + k * 2 ^ 39) (2 ^ 61) (repeat k (eventIn h)) (omega arith)
-        (asks-repeat (2 ^ 62) (2 ^ 39) (2 ^ 39) k (eventIn h) Any one (one .zeros) .bounded)
+        (demand-repeat (2 ^ 62) (2 ^ 39) (2 ^ 39) k (eventIn h) Any one (one .zeros) .bounded)
 
     kth-bounded : Bounded (2 ^ 62) (2 ^ 61) (kthEvent h k)
     unfolding kthEvent
     kth-bounded =
-        let one = event-asks (h .version) (h .primary) (h .dependent) p d in
-        let many = asks-repeat (2 ^ 62) (2 ^ 39) (2 ^ 39) k (eventIn h) Any one (one .zeros) in
+        let one = event-demand (h .version) (h .primary) (h .dependent) p d in
+        let many = demand-repeat (2 ^ 62) (2 ^ 39) (2 ^ 39) k (eventIn h) Any one (one .zeros) in
         bounded-more (2 ^ 62) (2 ^ 39 + k * 2 ^ 39 + 2 ^ 39) (2 ^ 61) (repeat k (eventIn h) >> eventIn h) (omega arith)
-        (asks-bind (2 ^ 62) (2 ^ 39 + k * 2 ^ 39) (2 ^ 39) Any Any (λ _. eventIn h) (λ _ _. one) (repeat k (eventIn h)) many .bounded)
+        (demand-bind (2 ^ 62) (2 ^ 39 + k * 2 ^ 39) (2 ^ 39) Any Any (λ _. eventIn h) (λ _ _. one) (repeat k (eventIn h)) many .bounded)
 
 -- ---- the number is judged first
 module _ {A : Type 0} (k : ℕ) (h : TrayHeader) (call : Call A) where
@@ -125,7 +125,7 @@ module _ (limit number : ℕ) where
     -- ---- any call over the run
     module _ {A : Type 0} (call : TrayHeader → Call A) where
       over-prefix : PrefixProperty (λ s. overRun (readHeader limit number s) call s)
-      over-prefix = behind-prefix (readHeader limit number) (header-prefix limit number) 32 (λ s h e. there s h e .size) call
+      over-prefix = after-prefix (readHeader limit number) (header-prefix limit number) 32 (λ s h e. there s h e .size) call
 
       over-names : (P : ℕ → Type 0) → P 1 → ((h : TrayHeader) → PartsIn P (call h)) → Names P (λ s. overRun (readHeader limit number s) call s)
       over-names P one parts s q i = go (readHeader limit number s) refl i
@@ -142,9 +142,9 @@ module _ (limit number : ℕ) where
 
       over-part : (q : ℕ) → (q ≡ 1 → ⊥) → (s : List ℕ) → Bytes s → length s < 2 ^ 62
           → ((h : TrayHeader) → readHeader limit number s ≡ ok h → Covers (2 ^ 61) q (call h) (drop 32 s)) → CompletesOn q (λ s. overRun (readHeader limit number s) call s) s
-      over-part q behind s isBytes few covers =
-          behind-completes (readHeader limit number) (header-prefix limit number) 32 (λ s h e. there s h e .size) call (2 ^ 61) (lit< tt) q
-          (λ s e. behind (header-names limit number other s q e)) s isBytes few covers
+      over-part q beyond s isBytes few covers =
+          after-completes (readHeader limit number) (header-prefix limit number) 32 (λ s h e. there s h e .size) call (2 ^ 61) (lit< tt) q
+          (λ s e. beyond (header-names limit number other s q e)) s isBytes few covers
 
     module _ (small : limit < 2 ^ 16) where
       -- ---- both calls of a scan: event k is parsed by `events` at `place`
@@ -170,7 +170,7 @@ module _ (limit number : ℕ) where
             over-names numberedBy ScanPart (inl refl)
             (λ h.
             parts-numbered k h (scanBy h) ScanPart
-            (inr (inl refl), λ entry _. (inr (inr (inl refl)), λ e next. (inr (inr (inr refl)), λ f _. finding-settled (handOut lent entry e next) (settled lent entry e next) f))))
+            (inr (inl refl), λ entry _. (inr (inr (inl refl)), λ e next. (inr (inr (inr refl)), λ f _. finding-not-truncated (handOut lent entry e next) (notTruncated lent entry e next) f))))
 
         by-header : Completes 1 0 by
         unfolding numberedBy scanBy withData
@@ -178,7 +178,7 @@ module _ (limit number : ℕ) where
             over-header numberedBy
             (λ h.
             avoids-numbered k h (scanBy h) 1
-            ((λ e. omega (arith, e)), λ entry _. ((λ e. omega (arith, e)), λ e next. ((λ e. omega (arith, e)), λ f _. finding-settled (handOut lent entry e next) (settled lent entry e next) f))))
+            ((λ e. omega (arith, e)), λ entry _. ((λ e. omega (arith, e)), λ e next. ((λ e. omega (arith, e)), λ f _. finding-not-truncated (handOut lent entry e next) (notTruncated lent entry e next) f))))
 
         module _ (s : List ℕ) (isBytes : Bytes s) (few : length s < 2 ^ 62) where
           by-index : CompletesOn 2 by s
@@ -192,7 +192,7 @@ module _ (limit number : ℕ) where
                 refl,
                 omega (arith, words limit s (there s h i) isBytes .index),
                 entry-bounded h k (omega (arith, there s h i .few)),
-                λ entry _. ((λ e. omega (arith, e)), λ e next. ((λ e. omega (arith, e)), λ f _. finding-settled (handOut lent entry e next) (settled lent entry e next) f)),
+                λ entry _. ((λ e. omega (arith, e)), λ e next. ((λ e. omega (arith, e)), λ f _. finding-not-truncated (handOut lent entry e next) (notTruncated lent entry e next) f)),
               )))
 
           by-events : EventsNear k place events s → CompletesOn 3 by s
@@ -203,7 +203,7 @@ module _ (limit number : ℕ) where
               covers-numbered k h (scanBy h) 3 (drop 32 s)
               (λ l.
               let w = near h i (omega (arith, there s h i .few)) in
-              inr ((λ e. omega (arith, e)), λ entry _ _. inl (refl, w .0, w .1, λ e next. ((λ e. omega (arith, e)), λ f _. finding-settled (handOut lent entry e next) (settled lent entry e next) f)))))
+              inr ((λ e. omega (arith, e)), λ entry _ _. inl (refl, w .0, w .1, λ e next. ((λ e. omega (arith, e)), λ f _. finding-not-truncated (handOut lent entry e next) (notTruncated lent entry e next) f)))))
 
           by-data : DataNear k s → CompletesOn 4 by s
           unfolding numberedBy scanBy withData readEntry outcome
@@ -217,11 +217,11 @@ module _ (limit number : ℕ) where
                 λ entry next q.
                     let here : parse (Entry.entry (h .version)) (drop 32 s) (h .index + k * entrySize (h .version)) ≡ parsed entry next = sym (entry-alone h k (drop 32 s)) ∙ q in
                     let near = low h entry (sym i) (rw here) in
-                    let size = yields-parsed _ (Entry.entry (h .version)) (entry-sizable (h .version)) (drop 32 s) (drop-bytes 32 s isBytes) _ here in
+                    let size = invariant-parsed _ (Entry.entry (h .version)) (entry-sizable (h .version)) (drop 32 s) (drop-bytes 32 s isBytes) _ here in
                     inr (
                       (λ e. omega (arith, e)),
                       λ e end _.
-                          inl (refl, near, data-bounded (dataStart (h .«data») (entry .offset)) (entry .offset) (entry .«data_size») near size (formatIn h), λ f _. finding-settled (handOut lent entry e end) (settled lent entry e end) f),
+                          inl (refl, near, data-bounded (dataStart (h .«data») (entry .offset)) (entry .offset) (entry .«data_size») near size (formatIn h), λ f _. finding-not-truncated (handOut lent entry e end) (notTruncated lent entry e end) f),
                     ),
               )))
 
@@ -250,10 +250,10 @@ module _ (limit number : ℕ) where
           unfolding scanOf scanIn scanBy numberedBy
           scan-of-completes q p s isBytes few near = by-part lent k (λ h. h .events) (λ h. kthEvent h k) s isBytes few q p (λ _. kth-near s isBytes) near
 
-        pub scan-of-longer : (xs : Slices) → OnLongerBytes told (λ s r ys. Answers (λ lent. scanOf limit number lent k s) xs r ys) ScanPart (ScanNear k)
+        pub scan-of-longer : (xs : Slices) → OnLongerBytes outcomeOf (λ s r ys. Answers (λ lent. scanOf limit number lent k s) xs r ys) ScanPart (ScanNear k)
         scan-of-longer xs =
             let lent = lengthsOf xs in
-            left-longer told scan-told-one (scanOf limit number lent k) (scan-of-prefix lent) ScanPart (ScanNear k) (scan-of-names lent)
+            left-longer outcomeOf scan-answer-one (scanOf limit number lent k) (scan-of-prefix lent) ScanPart (ScanNear k) (scan-of-names lent)
             (λ q s isBytes few near i. scan-of-completes lent q (scan-of-names lent s q i) s isBytes few near i) (λ (v : Decoded). v .scan) written xs
 
         -- ---- the same, where event k is read at a place that the caller gives
@@ -273,10 +273,10 @@ module _ (limit number : ℕ) where
                 by-part lent k (λ _. at) eventIn s isBytes few q p
                 (λ e h i l. let w = words limit s (there s h i) isBytes in (near .0 e, event-bounded h (w .primary) (w .dependent))) (near .1)
 
-          pub scan-from-of-longer : (xs : Slices) → OnLongerBytes told (λ s r ys. Answers (λ lent. scanFromOf limit number lent k at s) xs r ys) ScanPart (FromNear k at)
+          pub scan-from-of-longer : (xs : Slices) → OnLongerBytes outcomeOf (λ s r ys. Answers (λ lent. scanFromOf limit number lent k at s) xs r ys) ScanPart (FromNear k at)
           scan-from-of-longer xs =
               let lent = lengthsOf xs in
-              left-longer told scan-told-one (scanFromOf limit number lent k at) (scan-from-of-prefix lent) ScanPart (FromNear k at) (scan-from-of-names lent)
+              left-longer outcomeOf scan-answer-one (scanFromOf limit number lent k at) (scan-from-of-prefix lent) ScanPart (FromNear k at) (scan-from-of-names lent)
               (λ q s isBytes few near i. scan-from-of-completes lent q (scan-from-of-names lent s q i) s isBytes few near i) (λ (v : Decoded). v .scan) written xs
 
       -- ---- where event k stands
@@ -304,9 +304,9 @@ module _ (limit number : ℕ) where
             let w = words limit s (there s h i) isBytes in
             inl (refl, omega (arith, w .events), events-bounded h k (omega (arith, there s h i .few)) (w .primary) (w .dependent), λ _ _. tt))))
 
-        pub place-of-longer : OnLongerBytes toldCount (λ s r (_ : Unit {0}). toldCount r ≡ placeOf limit number k s) PlacePart (λ _ _. Unit {0})
+        pub place-of-longer : OnLongerBytes outcomeOfCount (λ s r (_ : Unit {0}). outcomeOfCount r ≡ placeOf limit number k s) PlacePart (λ _ _. Unit {0})
         place-of-longer =
-            plain-longer toldCount count-one (placeOf limit number k) place-of-prefix PlacePart (λ _ _. Unit {0}) place-of-names
+            plain-longer outcomeOfCount count-one (placeOf limit number k) place-of-prefix PlacePart (λ _ _. Unit {0}) place-of-names
             (λ q s isBytes few _ i. place-of-completes q (place-of-names s q i) s isBytes few i)
 
       -- ---- where the event at a place ends
@@ -327,7 +327,7 @@ module _ (limit number : ℕ) where
             (over-part (endIn at) 3 (λ e. omega (arith, e)) s isBytes few
             (λ h i. let w = words limit s (there s h i) isBytes in inl (refl, near e, event-bounded h (w .primary) (w .dependent), λ _ _. tt)))
 
-        pub end-of-longer : OnLongerBytes toldCount (λ s r (_ : Unit {0}). toldCount r ≡ endOf limit number at s) PlacePart (EndNear at)
+        pub end-of-longer : OnLongerBytes outcomeOfCount (λ s r (_ : Unit {0}). outcomeOfCount r ≡ endOf limit number at s) PlacePart (EndNear at)
         end-of-longer =
-            plain-longer toldCount count-one (endOf limit number at) end-of-prefix PlacePart (EndNear at) end-of-names
+            plain-longer outcomeOfCount count-one (endOf limit number at) end-of-prefix PlacePart (EndNear at) end-of-names
             (λ q s isBytes few near i. end-of-completes q (end-of-names s q i) s isBytes few near i)

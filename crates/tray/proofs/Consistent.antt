@@ -7,13 +7,13 @@ use mathlib.Core.List.{List, [], _∷_}
 use lib.Dec.{ltb}
 use lib.ListN.{length, drop}
 use Rattle.refusal.specs.Outcome.{Outcome, ok, refused, andThen}
-use Rattle.lists.specs.Left.{fits, ifRoom}
+use Rattle.lists.specs.Left.{fits, ifFits}
 use Rattle.lists.proofs.Cases.{and-true}
 use Rattle.lists.proofs.Left.{fits-true}
 use Rattle.parser.specs.Parser.{Parsed, short, parsed, parse}
 use Rattle.parser.specs.Call.{Call, answer, part, onward, outcome}
 use Rattle.scan_index.specs.declared.ScanIndexEntry.{ScanIndexEntry}
-use Rattle.scan_event.specs.Event.{Event, decoded, describe, hasRoom}
+use Rattle.event_record.specs.Event.{Event, decoded, describe, hasRoom}
 use Rattle.pairs.specs.Pairs.{Pair}
 use Rattle.tray_header.specs.Header.{readTrayHeader}
 use Rattle.tray_header.specs.declared.TrayHeader.{TrayHeader}
@@ -55,13 +55,13 @@ module _ (lent : Lengths) where
   unfolding handOut describe
   handed-out entry e next content = go (pairs (e .coefficients) content) _ refl
     where
-      go : (ps : List Pair) (room : Bool) → (fits ((length ps, lent .mz) ∷ (length ps, lent .intensity) ∷ []) && hasRoom (lent .event) (length (e .preamble)) (length (e .reactions)) (length (e .coefficients))) ≡ room
-          → OnOk (Consistent lent) (ifRoom room (record { scan = record { entry = entry; event = decoded e next .event; pairs = length ps }; event = decoded e next; pairs = ps }))
+      go : (ps : List Pair) (room : Bool) → (fits (length ps ∷ length ps ∷ []) (lent .mz ∷ lent .intensity ∷ []) && hasRoom (lent .event) (length (e .preamble)) (length (e .reactions)) (length (e .coefficients))) ≡ room
+          → OnOk (Consistent lent) (ifFits room (record { scan = record { entry = entry; event = decoded e next .event; pairs = length ps }; event = decoded e next; pairs = ps }))
       go ps true i =
           let l = lent .event in
-          let both = and-true (fits ((length ps, lent .mz) ∷ (length ps, lent .intensity) ∷ [])) _ i in
-          let w = fits-true ((length ps, lent .mz) ∷ (length ps, lent .intensity) ∷ []) (both .0) in
-          let v = fits-true ((length (e .preamble), l .preamble) ∷ (length (e .reactions), l .precursors) ∷ (length (e .reactions), l .energies) ∷ (length (e .coefficients), l .coefficients) ∷ []) (both .1) in
+          let both = and-true (fits (length ps ∷ length ps ∷ []) (lent .mz ∷ lent .intensity ∷ [])) _ i in
+          let w = fits-true (length ps ∷ length ps ∷ []) (lent .mz ∷ lent .intensity ∷ []) (both .0) in
+          let v = fits-true (length (e .preamble) ∷ length (e .reactions) ∷ length (e .reactions) ∷ length (e .coefficients) ∷ []) (l .preamble ∷ l .precursors ∷ l .energies ∷ l .coefficients ∷ []) (both .1) in
           record { count = refl; coefficients = refl; in-mz = w .0; in-intensity = w .1 .0; in-coefficients = v .1 .1 .1 .0 }
       go ps false i = tt
 

@@ -1,5 +1,5 @@
--- A tray that breaks off behind its header: version 8, two scans, all places 0. Where event 1 stands is refused, not told, and
--- with the 77 bytes of event 0 behind the header it is known.
+-- A tray that breaks off after its header: version 8, two scans, all places 0. Where event 1 stands is refused, not told, and
+-- with the 77 bytes of event 0 after the header it is known.
 use mathlib.Core.Path.{_≡_, refl}
 use Prim.Native.Nat.{ℕ}
 use mathlib.Core.List.{List, [], _∷_, _++_}
@@ -7,7 +7,7 @@ use lib.ListN.{replicate}
 use Rattle.refusal.specs.Outcome.{ok, refused, ranOut}
 use Rattle.parser.specs.Parser.{parse, repeat}
 use Rattle.parser.specs.Call.{outcome}
-use Rattle.preamble.specs.Size.{sizeForVersion}
+use Rattle.event_preamble.specs.Size.{sizeForVersion}
 use Rattle.event_before_66.specs.Layout.{head, reaction, middle, tail, before66}
 use Rattle.event_walk.specs.Walk.{event}
 use Rattle.tray_header.specs.Header.{header, judged, readHeader}

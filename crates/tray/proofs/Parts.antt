@@ -17,7 +17,7 @@ use Rattle.parser.proofs.Answered.{found, ran-out}
 use Rattle.scan_index.specs.Entry.{entry, entrySize, readEntry}
 use Rattle.scan_index.specs.declared.ScanIndexEntry.{ScanIndexEntry}
 use Rattle.scan_index.proofs.Size.{entry-least, entry-sized}
-use Rattle.scan_event.specs.Event.{Event}
+use Rattle.event_record.specs.Event.{Event}
 use Rattle.event_walk.specs.Walk.{eventPlace}
 use Rattle.tray_header.specs.declared.TrayHeader.{TrayHeader}
 use Rattle.tray_scan.specs.Scan.{eventIn}

@@ -1,5 +1,5 @@
 -- Going on from the event before gives the same answers: `event_of` says where event k stands, `next_event` leads from one to
--- the next, and a scan read from there is the scan. Where event k has no place, any place behind the end serves.
+-- the next, and a scan read from there is the scan. Where event k has no place, any place after the end serves.
 use mathlib.Core.Path.{_≡_, refl, ap, sym, _∙_}
 use Prim.Native.Nat.{ℕ, suc, _+_, _*_, _-_, _^_, _≤_, _<_}
 use native.Mathlib.Omega.{arith}
@@ -13,15 +13,15 @@ use Rattle.parser.specs.Call.{answer, outcome}
 use Rattle.parser.proofs.Answered.{ran-out}
 use Rattle.scan_index.specs.Entry.{entrySize, readEntry}
 use Rattle.scan_index.specs.declared.ScanIndexEntry.{ScanIndexEntry}
-use Rattle.scan_event.specs.Event.{Event}
+use Rattle.event_record.specs.Event.{Event}
 use Rattle.event_walk.specs.Walk.{eventEnd, eventPlace}
-use Rattle.event_walk.proofs.Steps.{place-none, place-more, none-behind}
+use Rattle.event_walk.proofs.Steps.{place-none, place-more, none-after}
 use Rattle.tray_header.specs.Header.{readHeader, readTrayHeader}
 use Rattle.tray_header.specs.declared.TrayHeader.{TrayHeader}
 use Rattle.tray_scan.specs.Scan.{eventIn, Lengths, scanOfEntry}
 use Rattle.tray_scan.proofs.Results.{event-short}
 use Rattle.tray.specs.Scan.{scanIn, scanFrom, placeIn, endIn, numbered, overRun, scanOf, scanFromOf, placeOf, endOf, readScan, readScanFrom, eventOf, nextEvent}
-use Rattle.tray.specs.Places.{placeOrEnd}
+use Rattle.tray.specs.Internal.{placeOrEnd}
 use Rattle.tray.proofs.Scans.{no-entry-from, no-entry, from-place, no-place, at-place, in-run, in-scan}
 
 -- a walk that is refused ran out
@@ -49,11 +49,11 @@ module _ (lent : Lengths) (h : TrayHeader) (k at : ℕ) (s : List ℕ) where
   unfolding placeIn eventPlace
   at-event i = by-entry (λ entry e. at-place lent h k s e i)
 
-  behind-run : {n : ℕ} {carries : List ℕ} → refused n carries ≡ outcome (placeIn k h) s → length s ≤ at → outcome (scanFrom lent k at h) s ≡ outcome (scanIn lent k h) s
+  after-run : {n : ℕ} {carries : List ℕ} → refused n carries ≡ outcome (placeIn k h) s → length s ≤ at → outcome (scanFrom lent k at h) s ≡ outcome (scanIn lent k h) s
   unfolding placeIn eventPlace
-  behind-run i far =
+  after-run i far =
       by-entry (λ entry e.
-      sym (event-short h entry at s lent (sym (none-behind (h .version) (h .primary) (h .dependent) s at far))) ∙ walk-short h k s i ∙ no-place lent h k s e i)
+      sym (event-short h entry at s lent (sym (none-after (h .version) (h .primary) (h .dependent) s at far))) ∙ walk-short h k s i ∙ no-place lent h k s e i)
 
 -- ---- in a tray, whatever its limit of scans is
 module _ (limit number : ℕ) (s : List ℕ) where
@@ -93,8 +93,8 @@ module _ (limit number : ℕ) (s : List ℕ) where
 
     pub no-place-of : (n : ℕ) (carries : List ℕ) → refused n carries ≡ placeOf limit number k s → length s ≤ at → scanFromOf limit number lent k at s ≡ scanOf limit number lent k s
     no-place-of n carries i far =
-        let behind : length (drop 32 s) ≤ at = simp length-drop (omega arith) in
-        in-tray (refused n carries) (λ h j. behind-run lent h k at (drop 32 s) j behind) i
+        let beyond : length (drop 32 s) ≤ at = simp length-drop (omega arith) in
+        in-tray (refused n carries) (λ h j. after-run lent h k at (drop 32 s) j beyond) i
 
 -- ---- in a tray of at most 4,096 scans
 pub place-first : (s : List ℕ) {h : TrayHeader} → ok h ≡ readTrayHeader s → 0 < h .scans → eventOf 0 s ≡ ok (h .events)

@@ -9,7 +9,7 @@ use Rattle.parser.specs.Parser.{Parser, _>>_, skip, repeat}
 use Rattle.parser.specs.Call.{Call, answer, part, outcome, single}
 use Rattle.scan_index.specs.Entry.{entry, entrySize}
 use Rattle.scan_index.specs.declared.ScanIndexEntry.{ScanIndexEntry}
-use Rattle.scan_event.specs.Event.{Event}
+use Rattle.event_record.specs.Event.{Event}
 use Rattle.tray_header.specs.Header.{readHeader}
 use Rattle.tray_header.specs.declared.TrayHeader.{TrayHeader}
 use Rattle.tray_scan.specs.Scan.{eventIn, Lengths, Decoded, withData, eventAndData}

@@ -1,13 +1,13 @@
 // Scan k of a tray: entry k of its index and event k, and what `tray_scan` makes of them.
 ghost use mathlib.Core.Path.{_≡_};
 ghost use Prim.Native.Nat.{_+_, _*_, _<_};
-ghost use Rattle.refusal.specs.Number.{toldCount};
+ghost use Rattle.refusal.specs.Number.{outcomeOfCount};
 ghost use Rattle.parser.specs.Call.{outcome};
 ghost use Rattle.scan_index.specs.Entry.{entrySize, readEntry};
-ghost use Rattle.scan_index.specs.Entry.{told as toldEntry};
+ghost use Rattle.scan_index.specs.Entry.{outcomeOf as outcomeOfEntry};
 ghost use Rattle.tray_scan.specs.Scan.{slices, Answers};
 ghost use Rattle.tray.specs.Scan.{scanFrom, readScan, readScanFrom, eventOf, nextEvent};
-ghost use Rattle.tray.specs.Places.{placeOrEnd};
+ghost use Rattle.tray.specs.Internal.{placeOrEnd};
 use event_walk::event_end;
 use event_walk::event_place;
 use refusal::CountAnswer;
@@ -23,7 +23,7 @@ use tray_scan::scan_of_entry;
 // Entry k of the index.
 fn entry_of(run: &[u8], h: TrayHeader, k: u32) -> EntryAnswer
     requires { ⌜ k < 4096 ⌝ }
-    ensures { λ r. ⌜ toldEntry r ≡ readEntry (h .version) (h .index + k * entrySize (h .version)) (now (run .entry)) ⌝ }
+    ensures { λ r. ⌜ outcomeOfEntry r ≡ readEntry (h .version) (h .index + k * entrySize (h .version)) (now (run .entry)) ⌝ }
 {
     let size = ScanIndexEntry::min_size_for_version(h.version);
     ScanIndexEntry::read(run, h.index as u64 + k as u64 * size, h.version)
@@ -104,7 +104,7 @@ pub fn read_scan_from(
 
 // Where event k stands in the run.
 pub fn event_of(tray: &[u8], k: u32) -> CountAnswer
-    ensures { λ r. ⌜ toldCount r ≡ eventOf k (now (tray .entry)) ⌝ }
+    ensures { λ r. ⌜ outcomeOfCount r ≡ eventOf k (now (tray .entry)) ⌝ }
 {
     match read_tray_header(tray) {
         TrayHeaderAnswer::Refused(r) => CountAnswer::Refused(r),
@@ -127,7 +127,7 @@ pub fn event_of(tray: &[u8], k: u32) -> CountAnswer
 
 // Where the event at a place of the run ends, and the next one starts.
 pub fn next_event(tray: &[u8], at: u64) -> CountAnswer
-    ensures { λ r. ⌜ toldCount r ≡ nextEvent at (now (tray .entry)) ⌝ }
+    ensures { λ r. ⌜ outcomeOfCount r ≡ nextEvent at (now (tray .entry)) ⌝ }
 {
     match read_tray_header(tray) {
         TrayHeaderAnswer::Refused(r) => CountAnswer::Refused(r),
@@ -137,9 +137,9 @@ pub fn next_event(tray: &[u8], at: u64) -> CountAnswer
     }
 }
 
-// A place to read event k at. Where there is none it is behind every run: entry k is judged first, and then the events.
+// A place to read event k at. Where there is none it is after every run: entry k is judged first, and then the events.
 fn place_or_end(found: CountAnswer) -> u64
-    ensures { λ r. ⌜ r ≡ placeOrEnd (toldCount found) ⌝ }
+    ensures { λ r. ⌜ r ≡ placeOrEnd (outcomeOfCount found) ⌝ }
 {
     match found {
         CountAnswer::Refused(_) => u64::MAX,

@@ -12,21 +12,21 @@ use Rattle.parser.specs.Call.{outcome, single}
 use Rattle.parser.proofs.Answered.{made-part}
 use Rattle.scan_format.specs.declared.ScanDataFormat.{ScanDataFormat}
 use Rattle.scan_format.specs.declared.ScanDataFormat.the-variants.{PacketHeader, FlatV63, FlatV66}
-use Rattle.peak_list.specs.PeakList.{itemSize}
-use Rattle.profile.specs.Profile.{isFudged, Axis, Chunk, points, located}
-use Rattle.profile.proofs.Answers.{profile-chunks}
-use Rattle.scan_packet.specs.Packet.{Stored, absent, present, describeProfile}
-use Rattle.scan_packet.specs.Places.{peaksOf}
-use Rattle.scan_packet.specs.declared.Places.{Places}
+use Rattle.packet_peak_list.specs.PeakList.{itemSize}
+use Rattle.packet_profile.specs.Profile.{isFudged, Axis, Chunk, points, located}
+use Rattle.packet_profile.proofs.Answers.{profile-chunks}
+use Rattle.packet_record.specs.Packet.{Stored, absent, present, describeProfile}
+use Rattle.packet_record.specs.Places.{peaksOf}
+use Rattle.packet_record.specs.declared.Places.{Places}
 use Rattle.packet_header.specs.declared.PacketHeader as head
 use Rattle.packet_places.specs.Packet.{stored, packet}
 use Rattle.packet_places.specs.Places.{findPlaces}
 use Rattle.packet_places.proofs.Stages.{present-parsed}
 use Rattle.packet_places.proofs.Answers.{packet-short, Standing, standing}
-use Rattle.flat.specs.Flat.{Attempt, accepted, passedOver, flatPeaks, ofAccepted, findFlatPeaks}
-use Rattle.flat.proofs.Answers as flat
-use Rattle.srm.specs.Scan.{scan, peaks, findPeaks}
-use Rattle.srm.proofs.Answers as srm
+use Rattle.srm_flat_peaks.specs.Flat.{Attempt, accepted, passedOver, flatPeaks, ofAccepted, findFlatPeaks}
+use Rattle.srm_flat_peaks.proofs.Answers as flat
+use Rattle.srm_scan.specs.Scan.{scan, peaks, findPeaks}
+use Rattle.srm_scan.proofs.Answers as srm
 use Rattle.pairs.specs.Pairs.{chunksOf}
 use Rattle.pairs.proofs.Profiles.{chunks-parsed}
 use Rattle.pairs.proofs.Writing.{length-pairs}

@@ -1,3 +1,3 @@
 pub mod Answers
-pub mod Told
+pub mod OneAnswer
 pub mod LongerBytes

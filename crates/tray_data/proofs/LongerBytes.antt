@@ -5,24 +5,24 @@ use lib.Dec.{lit≤}
 use Rattle.refusal.specs.Outcome.{Outcome}
 use Rattle.parser.specs.Parser.{done}
 use Rattle.parser.specs.LongerBytes.{OnLongerBytes, PrefixProperty, Names, Completes}
-use Rattle.parser.proofs.Completion.{Bounded, bounded-bind, yields-any}
-use Rattle.parser.proofs.Calls.{Settled}
-use Rattle.parser.proofs.Behind.{on-ok-prefix, on-ok-out, on-ok-completes}
+use Rattle.parser.proofs.Completion.{Bounded, bounded-bind, invariant-any}
+use Rattle.parser.proofs.Calls.{NotTruncated}
+use Rattle.parser.proofs.PrefixedBy.{on-ok-prefix, on-ok-out, on-ok-completes}
 use Rattle.parser.proofs.OnLongerBytes.{plain-longer, one-part}
 use Rattle.scan_format.specs.declared.ScanDataFormat.{ScanDataFormat}
 use Rattle.scan_format.specs.declared.ScanDataFormat.the-variants.{PacketHeader, FlatV63, FlatV66}
-use Rattle.scan_packet.specs.declared.Places.{Places}
+use Rattle.packet_record.specs.declared.Places.{Places}
 use Rattle.packet_places.specs.Packet.{packet}
 use Rattle.packet_places.specs.Places.{findPlaces}
 use Rattle.packet_places.proofs.LongerBytes.{packet-bounded, places-prefix, places-names, places-completes}
-use Rattle.flat.specs.Flat.{flatPeaks, findFlatPeaks}
-use Rattle.flat.proofs.LongerBytes.{flat-bounded}
-use Rattle.flat.proofs.LongerBytes as flat
-use Rattle.srm.specs.Scan.{scan, peaks, findPeaks}
-use Rattle.srm.proofs.LongerBytes.{peaks-bounded}
-use Rattle.srm.proofs.LongerBytes as srm
-use Rattle.tray_data.specs.Data.{Content, centroids, contentOf, Finding, given, implausible, ofAttempt, ofFinding, dataStart, scanData, packetData, narrowPeaks, findData, told}
-use Rattle.tray_data.proofs.Told.{data-told-one}
+use Rattle.srm_flat_peaks.specs.Flat.{flatPeaks, findFlatPeaks}
+use Rattle.srm_flat_peaks.proofs.LongerBytes.{flat-bounded}
+use Rattle.srm_flat_peaks.proofs.LongerBytes as flat
+use Rattle.srm_scan.specs.Scan.{scan, peaks, findPeaks}
+use Rattle.srm_scan.proofs.LongerBytes.{peaks-bounded}
+use Rattle.srm_scan.proofs.LongerBytes as srm
+use Rattle.tray_data.specs.Data.{Content, centroids, contentOf, Finding, given, implausible, ofAttempt, ofFinding, dataStart, scanData, packetData, narrowPeaks, findData, outcomeOf}
+use Rattle.tray_data.proofs.OneAnswer.{data-answer-one}
 
 module _ (place offset size : ℕ) where
   pub data-prefix : (format : ScanDataFormat) → PrefixProperty (findData format place offset size)
@@ -45,22 +45,22 @@ module _ (place offset size : ℕ) where
   data-names FlatV66 s part h = srm.find-names place offset s part (on-ok-out (narrowPeaks 12) (findPeaks place offset s) h)
 
   pub data-longer : size < 2 ^ 32 → (format : ScanDataFormat)
-      → OnLongerBytes told (λ s r (_ : Unit {0}). told r ≡ findData format place offset size s) (λ q. q ≡ 4) (λ _ _. dataStart place offset < 2 ^ 62)
+      → OnLongerBytes outcomeOf (λ s r (_ : Unit {0}). outcomeOf r ≡ findData format place offset size s) (λ q. q ≡ 4) (λ _ _. dataStart place offset < 2 ^ 62)
   data-longer h format =
-      plain-longer told data-told-one (findData format place offset size) (data-prefix format) (λ q. q ≡ 4) (λ _ _. dataStart place offset < 2 ^ 62) (data-names format)
+      plain-longer outcomeOf data-answer-one (findData format place offset size) (data-prefix format) (λ q. q ≡ 4) (λ _ _. dataStart place offset < 2 ^ 62) (data-names format)
       (one-part 4 (dataStart place offset) (findData format place offset size) (data-names format) (data-completes h format))
 
 -- the parser's own bound, for calls of several parts
 pub data-bounded : (at offset size : ℕ) → at < 2 ^ 62 → size < 2 ^ 32 → (format : ScanDataFormat) → Bounded (2 ^ 62) (2 ^ 61) (scanData format at offset size)
 unfolding scanData
 data-bounded at offset size low h PacketHeader =
-    bounded-bind (λ _. Unit {0}) (λ p. done (given (contentOf (p .profile) (p .peaks)))) (2 ^ 62) (2 ^ 61) 0 (λ _ _. lit≤ tt) (λ _ _. tt) packet (yields-any packet) packet-bounded
+    bounded-bind (λ _. Unit {0}) (λ p. done (given (contentOf (p .profile) (p .peaks)))) (2 ^ 62) (2 ^ 61) 0 (λ _ _. lit≤ tt) (λ _ _. tt) packet (invariant-any packet) packet-bounded
 data-bounded at offset size low h FlatV63 =
     bounded-bind (λ _. Unit {0}) (λ a. done (ofAttempt a)) (2 ^ 62) (2 ^ 61) 0 (λ _ _. lit≤ tt) (λ _ _. tt)
-    (flatPeaks at offset size) (yields-any (flatPeaks at offset size)) (flat-bounded at offset size low h)
+    (flatPeaks at offset size) (invariant-any (flatPeaks at offset size)) (flat-bounded at offset size low h)
 data-bounded at offset size low h FlatV66 =
-    bounded-bind (λ _. Unit {0}) (λ ps. done (given (centroids ps))) (2 ^ 62) (2 ^ 61) 0 (λ _ _. lit≤ tt) (λ _ _. tt) (scan peaks) (yields-any (scan peaks)) peaks-bounded
+    bounded-bind (λ _. Unit {0}) (λ ps. done (given (centroids ps))) (2 ^ 62) (2 ^ 61) 0 (λ _ _. lit≤ tt) (λ _ _. tt) (scan peaks) (invariant-any (scan peaks)) peaks-bounded
 
-pub finding-settled : {A : Type 0} (f : Content → Outcome A) → ((content : Content) → Settled (f content)) → (x : Finding) → Settled (ofFinding f x)
-finding-settled f h (given content) = h content
-finding-settled f h implausible = tt
+pub finding-not-truncated : {A : Type 0} (f : Content → Outcome A) → ((content : Content) → NotTruncated (f content)) → (x : Finding) → NotTruncated (ofFinding f x)
+finding-not-truncated f h (given content) = h content
+finding-not-truncated f h implausible = tt

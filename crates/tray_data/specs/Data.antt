@@ -3,21 +3,21 @@ use Prim.Native.Nat.{ℕ, _+_, _-_, _^_, min}
 use mathlib.Core.Bool.{false}
 use mathlib.Core.List.{List, []}
 use Rattle.refusal.specs.Outcome.{Outcome, ok, refused, onOk}
-use Rattle.refusal.specs.Number.{toldRefusal}
-use Rattle.parser.specs.Parser.{Parser, done, _>>=_}
+use Rattle.refusal.specs.Number.{outcomeOfRefusal}
+use Rattle.parser.specs.Parser.{Parser, done, _>>=_, saturatingAdd}
 use Rattle.scan_format.specs.declared.ScanDataFormat.{ScanDataFormat}
 use Rattle.scan_format.specs.declared.ScanDataFormat.the-variants.{PacketHeader, FlatV63, FlatV66}
 use Rattle.peaks.specs.Peaks.{Peak, peaksAt}
-use Rattle.peak_list.specs.PeakList.{itemSize}
-use Rattle.profile.specs.Profile.{Chunk}
-use Rattle.scan_packet.specs.Packet.{Stored, absent, present}
-use Rattle.scan_packet.specs.declared.PacketProfile.{PacketProfile}
-use Rattle.scan_packet.specs.declared.PacketProfile.the-variants.{Absent, Present}
-use Rattle.scan_packet.specs.declared.Places.{Places}
+use Rattle.packet_peak_list.specs.PeakList.{itemSize}
+use Rattle.packet_profile.specs.Profile.{Chunk}
+use Rattle.packet_record.specs.Packet.{Stored, absent, present}
+use Rattle.packet_record.specs.declared.PacketProfile.{PacketProfile}
+use Rattle.packet_record.specs.declared.PacketProfile.the-variants.{Absent, Present}
+use Rattle.packet_record.specs.declared.Places.{Places}
 use Rattle.packet_places.specs.Packet.{packet}
 use Rattle.packet_places.specs.Places.{findPlaces}
-use Rattle.flat.specs.Flat.{Attempt, accepted, passedOver, flatPeaks, findFlatPeaks}
-use Rattle.srm.specs.Scan.{scan, peaks, findPeaks}
+use Rattle.srm_flat_peaks.specs.Flat.{Attempt, accepted, passedOver, flatPeaks, findFlatPeaks}
+use Rattle.srm_scan.specs.Scan.{scan, peaks, findPeaks}
 use Rattle.calibration.specs.declared.Bins.{Bins}
 use Rattle.pairs.specs.Pairs.{Pair, chunksOf, binsOf, pairsOf, peakPairs}
 use Rattle.tray_data.specs.declared.ScanData.{ScanData}
@@ -51,7 +51,7 @@ ofFinding f implausible = refused 2 []
 
 -- where the data of a scan stand: the data's place and the offset added, saturating. Flat peaks end there
 abbrev pub dataStart : ℕ → ℕ → ℕ
-dataStart place offset = min (place + offset) (2 ^ 64 - 1)
+dataStart place offset = saturatingAdd place offset
 
 -- the data that stand at `at`
 unfoldable pub scanData : ScanDataFormat → ℕ → ℕ → ℕ → Parser Finding
@@ -86,6 +86,6 @@ abbrev pub countOf : ScanData → ℕ
 countOf (Profile p) = p .points
 countOf (Peaks w) = w .count
 
-abbrev pub told : DataAnswer → Outcome ScanData
-told (answer.Data d) = ok d
-told (answer.Refused r) = toldRefusal r
+abbrev pub outcomeOf : DataAnswer → Outcome ScanData
+outcomeOf (answer.Data d) = ok d
+outcomeOf (answer.Refused r) = outcomeOfRefusal r

@@ -1,28 +1,28 @@
 // The data of a scan, by the format of its run: a packet, flat peaks or an SRM scan. They are found first, so that a scan is
 // judged whole before anything is written, and their pairs are written after.
 ghost use mathlib.Core.Path.{_≡_};
-ghost use Rattle.lists.specs.Left.{handOutPairs, LeftPairs};
+ghost use Rattle.lists.specs.Left.{pairsIfFit, LeftPairs};
 ghost use Rattle.refusal.specs.Outcome.{onOk};
-ghost use Rattle.peaks.specs.Peaks.{toldPlace};
+ghost use Rattle.peaks.specs.Peaks.{outcomeOfPlace};
 ghost use Rattle.packet_places.specs.Places.{findPlaces};
-ghost use Rattle.tray_data.specs.Data.{packetData, narrowPeaks, pairs, findData, contentAt, countOf, told};
-use flat::find_flat_peaks;
+ghost use Rattle.tray_data.specs.Data.{packetData, narrowPeaks, pairs, findData, contentAt, countOf, outcomeOf};
+use packet_peak_list::item_size;
 use packet_places::find_places;
+use packet_profile::Profile;
+use packet_record::PacketProfile;
+use packet_record::Places;
+use packet_record::PlacesAnswer;
 use pairs::peak_pairs;
 use pairs::to_mz_intensity;
-use peak_list::item_size;
 use peaks::PeaksPlace;
-use profile::Profile;
 use reader::saturating_add;
 use refusal::CountAnswer;
 use refusal::Refusal;
 use scan_format::ScanDataFormat;
-use scan_packet::PacketProfile;
-use scan_packet::Places;
-use scan_packet::PlacesAnswer;
-use srm::find_srm_peaks;
+use srm_flat_peaks::find_flat_peaks;
+use srm_scan::find_srm_peaks;
 
-// Peaks at equal distances: an m/z, and right behind it the abundance.
+// Peaks at equal distances: an m/z, and right after it the abundance.
 pub struct PeakRow {
     pub at: u64,
     pub stride: u64,
@@ -59,7 +59,7 @@ fn packet_data(places: Places) -> ScanData
 }
 
 fn narrow_peaks(found: PeaksPlace, stride: u64) -> DataAnswer
-    ensures { λ r. ⌜ told r ≡ onOk (narrowPeaks stride) (toldPlace found) ⌝ }
+    ensures { λ r. ⌜ outcomeOf r ≡ onOk (narrowPeaks stride) (outcomeOfPlace found) ⌝ }
 {
     match found {
         PeaksPlace::Refused(r) => DataAnswer::Refused(r),
@@ -73,7 +73,7 @@ fn narrow_peaks(found: PeaksPlace, stride: u64) -> DataAnswer
 }
 
 fn find_packet(run: &[u8], at: u64) -> DataAnswer
-    ensures { λ r. ⌜ told r ≡ onOk (λ v. packetData (v .profile) v) (findPlaces at (now (run .entry))) ⌝ }
+    ensures { λ r. ⌜ outcomeOf r ≡ onOk (λ v. packetData (v .profile) v) (findPlaces at (now (run .entry))) ⌝ }
 {
     match find_places(run, at) {
         PlacesAnswer::Refused(r) => DataAnswer::Refused(r),
@@ -89,7 +89,7 @@ pub fn find_data(
     offset: u64,
     size: u32,
 ) -> DataAnswer
-    ensures { λ r. ⌜ told r ≡ findData format «data» offset size (now (run .entry)) ⌝ }
+    ensures { λ r. ⌜ outcomeOf r ≡ findData format «data» offset size (now (run .entry)) ⌝ }
 {
     match format {
         ScanDataFormat::PacketHeader => find_packet(run, saturating_add(data, offset)),
@@ -116,7 +116,7 @@ pub fn data_pairs(
     mz: &mut [f64],
     intensity: &mut [f64],
 ) -> CountAnswer
-    ensures { λ r. ⌜ LeftPairs (λ m i. handOutPairs m i (pairs (now (coefficients .entry)) (contentAt found (now (run .entry))))) (now (mz .entry)) (now (intensity .entry)) r (now (mz .exit)) (now (intensity .exit)) ⌝ }
+    ensures { λ r. ⌜ LeftPairs (λ m i. pairsIfFit m i (pairs (now (coefficients .entry)) (contentAt found (now (run .entry))))) (now (mz .entry)) (now (intensity .entry)) r (now (mz .exit)) (now (intensity .exit)) ⌝ }
 {
     match found {
         ScanData::Profile(p) => to_mz_intensity(run, p, coefficients, mz, intensity),

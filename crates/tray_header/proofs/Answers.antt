@@ -6,7 +6,7 @@ use borrow.Author.Tests.{le-leb, lt-leb}
 use Rattle.refusal.specs.Outcome.{ok, refused, ranOut}
 use Rattle.parser.specs.Parser.{left}
 use Rattle.parser.specs.Call.{outcome}
-use Rattle.parser.specs.Fixed.{Sized, value}
+use Rattle.parser.specs.Internal.{Sized, value}
 use Rattle.parser.proofs.Fixed.{parse-sized}
 use Rattle.tray_header.specs.Header.{header, judged, readHeader, readTrayHeader}
 use Rattle.tray_header.specs.declared.TrayHeader.{TrayHeader}

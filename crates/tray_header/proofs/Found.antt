@@ -13,7 +13,7 @@ use Rattle.parser.specs.Call.{onward, outcome}
 use Rattle.parser.specs.LongerBytes.{Bytes}
 use Rattle.parser.proofs.Prefix.{within-parsed}
 use Rattle.parser.proofs.Fixed.{parse-sized}
-use Rattle.parser.proofs.Completion.{Yields, yields-word, yields-parsed}
+use Rattle.parser.proofs.Completion.{ValueInvariant, invariant-word, invariant-parsed}
 use Rattle.tray_header.specs.Header.{header, judged, readHeader}
 use Rattle.tray_header.specs.declared.TrayHeader.{TrayHeader}
 use Rattle.tray_header.proofs.Answers.{header-sized}
@@ -52,11 +52,11 @@ pub record Words (h : TrayHeader) : Type 0 where
   pub index : h .index < 2 ^ 32
   pub events : h .events < 2 ^ 32
 
-header-words : Yields Words header
+header-words : ValueInvariant Words header
 unfolding header
 header-words =
     λ _ _ _ _ _ _ a la pa b lb pb _ _ _ c lc pc d ld pd _ _ _.
-    record { primary = yields-word 4 a la pa; dependent = yields-word 4 b lb pb; index = yields-word 4 c lc pc; events = yields-word 4 d ld pd }
+    record { primary = invariant-word 4 a la pa; dependent = invariant-word 4 b lb pb; index = invariant-word 4 c lc pc; events = invariant-word 4 d ld pd }
 
 pub words : (limit : ℕ) (s : List ℕ) {h : TrayHeader} → Whole limit s h → Bytes s → Words h
-words limit s w isBytes = yields-parsed Words header header-words s isBytes 0 (w .there)
+words limit s w isBytes = invariant-parsed Words header header-words s isBytes 0 (w .there)

@@ -1,4 +1,4 @@
 pub mod Answers
 pub mod Found
-pub mod Told
+pub mod OneAnswer
 pub mod LongerBytes

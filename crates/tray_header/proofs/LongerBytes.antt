@@ -10,12 +10,12 @@ use Rattle.refusal.specs.Outcome.{ok, refused}
 use Rattle.parser.specs.Call.{single}
 use Rattle.parser.specs.LongerBytes.{OnLongerBytes, PrefixProperty, Names, Completes}
 use Rattle.parser.proofs.Completion.{bounded-sized}
-use Rattle.parser.proofs.Calls.{Settled, settled-cond, prefix-property, only-part, single-completes}
+use Rattle.parser.proofs.Calls.{NotTruncated, not-truncated-cond, prefix-property, only-part, single-completes}
 use Rattle.parser.proofs.OnLongerBytes.{plain-longer, one-part}
-use Rattle.tray_header.specs.Header.{header, judged, readHeader, readTrayHeader, told}
+use Rattle.tray_header.specs.Header.{header, judged, readHeader, readTrayHeader, outcomeOf}
 use Rattle.tray_header.specs.declared.TrayHeader.{TrayHeader}
 use Rattle.tray_header.proofs.Answers.{header-sized}
-use Rattle.tray_header.proofs.Told.{header-told-one}
+use Rattle.tray_header.proofs.OneAnswer.{header-answer-one}
 
 module _ (limit number : ℕ) where
   pub header-prefix : PrefixProperty (readHeader limit number)
@@ -23,19 +23,19 @@ module _ (limit number : ℕ) where
   header-prefix = prefix-property (single 1 0 header (λ h _. judged limit number h))
 
   module _ (other : number ≡ 1 → ⊥) where
-    judged-settled : (h : TrayHeader) → Settled (judged limit number h)
+    judged-not-truncated : (h : TrayHeader) → NotTruncated (judged limit number h)
     unfolding judged
-    judged-settled h =
+    judged-not-truncated h =
         let one : T (not (eqb number 1)) = rw (ne-eqb number 1 other) tt in
-        settled-cond (leb (h .flat) 1) _ (refused 5 []) (settled-cond (leb (h .scans) limit) (ok h) (refused number []) tt one) tt
+        not-truncated-cond (leb (h .flat) 1) _ (refused 5 []) (not-truncated-cond (leb (h .scans) limit) (ok h) (refused number []) tt one) tt
 
     pub header-names : Names (λ q. q ≡ 1) (readHeader limit number)
     unfolding readHeader
-    header-names = only-part 1 0 header (λ h _. judged limit number h) (λ h _. judged-settled h)
+    header-names = only-part 1 0 header (λ h _. judged limit number h) (λ h _. judged-not-truncated h)
 
     pub header-completes : Completes 1 0 (readHeader limit number)
     unfolding readHeader
-    header-completes = single-completes 1 0 header (λ h _. judged limit number h) (bounded-sized (2 ^ 62) 32 (2 ^ 61) header (lit≤ tt) header-sized) (λ h _. judged-settled h)
+    header-completes = single-completes 1 0 header (λ h _. judged limit number h) (bounded-sized (2 ^ 62) 32 (2 ^ 61) header (lit≤ tt) header-sized) (λ h _. judged-not-truncated h)
 
 -- ---- at most 4,096 scans, or refusal 6
 pub six : _≡_ {A = ℕ} 6 1 → ⊥
@@ -48,7 +48,7 @@ pub tray-header-completes : Completes 1 0 readTrayHeader
 tray-header-completes = header-completes 4096 6 six
 
 -- the header starts at 0, so nothing is asked of its start
-pub tray-header-longer : OnLongerBytes told (λ s r (_ : Unit {0}). told r ≡ readTrayHeader s) (λ q. q ≡ 1) (λ _ _. Unit {0})
+pub tray-header-longer : OnLongerBytes outcomeOf (λ s r (_ : Unit {0}). outcomeOf r ≡ readTrayHeader s) (λ q. q ≡ 1) (λ _ _. Unit {0})
 tray-header-longer =
-    plain-longer told header-told-one readTrayHeader tray-header-prefix (λ q. q ≡ 1) (λ _ _. Unit {0}) (header-names 4096 6 six)
+    plain-longer outcomeOf header-answer-one readTrayHeader tray-header-prefix (λ q. q ≡ 1) (λ _ _. Unit {0}) (header-names 4096 6 six)
     (λ part s isBytes few _. one-part 1 0 readTrayHeader (header-names 4096 6 six) tray-header-completes part s isBytes few (lit< tt))

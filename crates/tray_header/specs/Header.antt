@@ -4,7 +4,7 @@ use mathlib.Core.Bool.{cond}
 use mathlib.Core.List.{List, []}
 use lib.Dec.{leb}
 use Rattle.refusal.specs.Outcome.{Outcome, ok, refused}
-use Rattle.refusal.specs.Number.{toldRefusal}
+use Rattle.refusal.specs.Number.{outcomeOfRefusal}
 use Rattle.parser.specs.Parser.{Parser, done, _>>=_, word}
 use Rattle.parser.specs.Call.{outcome, single}
 use Rattle.tray_header.specs.declared.TrayHeader.{TrayHeader}
@@ -44,6 +44,6 @@ readHeader limit number tray = outcome (single 1 0 header (λ h _. judged limit 
 abbrev pub readTrayHeader : List ℕ → Outcome TrayHeader
 readTrayHeader = readHeader 4096 6
 
-abbrev pub told : TrayHeaderAnswer → Outcome TrayHeader
-told (answer.Header h) = ok h
-told (answer.Refused r) = toldRefusal r
+abbrev pub outcomeOf : TrayHeaderAnswer → Outcome TrayHeader
+outcomeOf (answer.Header h) = ok h
+outcomeOf (answer.Refused r) = outcomeOfRefusal r

@@ -2,8 +2,8 @@
 ghost use mathlib.Core.Path.{_≡_};
 ghost use Prim.Native.Nat.{_≤_};
 ghost use Rattle.parser.specs.Parser.{left};
-ghost use Rattle.parser.specs.Fixed.{value};
-ghost use Rattle.tray_header.specs.Header.{header, readTrayHeader, told};
+ghost use Rattle.parser.specs.Internal.{value};
+ghost use Rattle.tray_header.specs.Header.{header, readTrayHeader, outcomeOf};
 use reader::remaining;
 use reader::u32_at;
 use refusal::Part;
@@ -17,7 +17,7 @@ pub struct TrayHeader {
     pub primary: u32,
     pub dependent: u32,
     pub scans: u32,
-    // Places of the index, the events and the data in the run, which starts behind the header.
+    // Places of the index, the events and the data in the run, which starts after the header.
     pub index: u32,
     pub events: u32,
     pub data: u32,
@@ -47,7 +47,7 @@ fn fields(tray: &[u8]) -> TrayHeader
 
 // The header of a tray: its flat word is 0 or 1, and it has at most 4,096 scans.
 pub fn read_tray_header(tray: &[u8]) -> TrayHeaderAnswer
-    ensures { λ r. ⌜ told r ≡ readTrayHeader (now (tray .entry)) ⌝ }
+    ensures { λ r. ⌜ outcomeOf r ≡ readTrayHeader (now (tray .entry)) ⌝ }
 {
     if remaining(tray, 0) < 32 {
         return TrayHeaderAnswer::Refused(Refusal::Short(Part::Header));

@@ -7,19 +7,19 @@ use mathlib.Core.List.{List, [], _∷_}
 use lib.ListN.{length, take, drop}
 use lib.Seq.{take-append-seam}
 use Rattle.refusal.specs.Outcome.{ok, refused}
-use Rattle.lists.specs.Left.{Left, ifRoom}
+use Rattle.lists.specs.Left.{Left, ifFits}
 use Rattle.lists.specs.Written.{over}
 use Rattle.lists.proofs.Laws.{length-over}
 use Rattle.lists.proofs.Left.{fits-true, wrote, stayed}
-use Rattle.scan_event.specs.Event.{Event, Decoded, decoded, describe, Slices, lentOf, hasRoom, handOut, written}
-use Rattle.scan_event.specs.declared.ScanEvent.{ScanEvent}
+use Rattle.event_record.specs.Event.{Event, Decoded, decoded, describe, Slices, lentOf, hasRoom, handOut, written}
+use Rattle.event_record.specs.declared.ScanEvent.{ScanEvent}
 
 -- ---- back from the room test
-pub room-given : {A : Type 0} (room : Bool) (v : A) {a : A} → ok a ≡ ifRoom room v → (room ≡ true) × (a ≡ v)
+pub room-given : {A : Type 0} (room : Bool) (v : A) {a : A} → ok a ≡ ifFits room v → (room ≡ true) × (a ≡ v)
 room-given true v h = (refl, cc)
 room-given false v h = let c : _≡_ {A = ℕ} 0 1 = cc in absurd (omega arith)
 
-pub room-refused : {A : Type 0} (room : Bool) (v : A) {n : ℕ} {carries : List ℕ} → refused n carries ≡ ifRoom room v → (room ≡ false) × (n ≡ 8) × (carries ≡ [])
+pub room-refused : {A : Type 0} (room : Bool) (v : A) {n : ℕ} {carries : List ℕ} → refused n carries ≡ ifFits room v → (room ≡ false) × (n ≡ 8) × (carries ≡ [])
 room-refused true v h = let c : _≡_ {A = ℕ} 0 1 = cc in absurd (omega arith)
 room-refused false v h = (refl, cc, cc)
 
@@ -62,7 +62,7 @@ module _ (e : Event) (next : ℕ) (xs : Slices) where
       pub within : v .coefficients ≤ length (ys .coefficients)
       within =
           let l = lentOf xs in
-          let fit = fits-true ((length (e .preamble), l .preamble) ∷ (length (e .reactions), l .precursors) ∷ (length (e .reactions), l .energies) ∷ (length (e .coefficients), l .coefficients) ∷ []) (w .room) .1 .1 .1 .0 in
+          let fit = fits-true (length (e .preamble) ∷ length (e .reactions) ∷ length (e .reactions) ∷ length (e .coefficients) ∷ []) (l .preamble ∷ l .precursors ∷ l .energies ∷ l .coefficients ∷ []) (w .room) .1 .1 .1 .0 in
           omega (arith, count-is, fit, ap length in-slice, length-over (e .coefficients) (xs .coefficients) fit)
 
       pub front : take (v .coefficients) (ys .coefficients) ≡ e .coefficients

@@ -1,5 +1,5 @@
 pub mod Parts
 pub mod Handed
 pub mod Results
-pub mod Told
+pub mod OneAnswer
 pub mod LongerBytes

@@ -8,8 +8,8 @@ use Rattle.refusal.specs.Outcome.{ok, refused}
 use Rattle.parser.specs.Parser.{parsed, parse}
 use Rattle.parser.specs.Call.{Call, part, outcome, single}
 use Rattle.parser.proofs.Answered.{found, ran-out}
-use Rattle.scan_event.specs.Event.{Event, handOut}
-use Rattle.scan_event.specs.declared.Lent.{Lent}
+use Rattle.event_record.specs.Event.{Event, handOut}
+use Rattle.event_record.specs.declared.Lent.{Lent}
 use Rattle.event_before_66.specs.Layout.{before66, readBefore66}
 use Rattle.event_from_66.specs.Layout.{from66, readFrom66}
 use Rattle.events.specs.Event.{readEvent}

@@ -9,15 +9,15 @@ use Rattle.refusal.specs.Outcome.{ok, refused}
 use Rattle.refusal.specs.declared.Refusal.{Refusal}
 use Rattle.refusal.specs.declared.Refusal.the-variants.{NoRoom}
 use Rattle.refusal.specs.declared.CountAnswer.{CountAnswer}
-use Rattle.lists.specs.Left.{fits, handOutPairs, LeftPairs}
+use Rattle.lists.specs.Left.{fits, pairsIfFit, LeftPairs}
 use Rattle.lists.proofs.Left.{fits-true, left-refused, left-same, left-written}
 use Rattle.parser.specs.Call.{outcome}
 use Rattle.scan_index.specs.declared.ScanIndexEntry.{ScanIndexEntry}
-use Rattle.scan_event.specs.Event.{decoded, lentOf}
-use Rattle.scan_event.specs.Event as event
-use Rattle.scan_event.specs.declared.ScanEvent.{ScanEvent}
-use Rattle.scan_event.specs.declared.EventAnswer.{EventAnswer}
-use Rattle.scan_event.specs.declared.EventAnswer.the-variants as eventAnswer
+use Rattle.event_record.specs.Event.{decoded, lentOf}
+use Rattle.event_record.specs.Event as event
+use Rattle.event_record.specs.declared.ScanEvent.{ScanEvent}
+use Rattle.event_record.specs.declared.EventAnswer.{EventAnswer}
+use Rattle.event_record.specs.declared.EventAnswer.the-variants as eventAnswer
 use Rattle.events.specs.Event.{readEvent}
 use Rattle.event_walk.specs.Walk.{eventEnd}
 use Rattle.calibration.proofs.Columns.{pairs-room}
@@ -26,7 +26,7 @@ use Rattle.tray_data.specs.Data.{pairs, findData, contentAt, countOf}
 use Rattle.tray_data.specs.declared.ScanData.{ScanData}
 use Rattle.tray_data.proofs.Answers.{data-found, data-refused, data-count}
 use Rattle.tray_scan.specs.Scan.{formatIn, Lengths, handOut, withData, eventAndData, scanOfEntry, Slices, Answers}
-use Rattle.tray_scan.specs.Judged.{Judged}
+use Rattle.tray_scan.specs.Internal.{Judged}
 use Rattle.tray_scan.specs.declared.Scan.{Scan}
 use Rattle.tray_scan.specs.declared.ScanAnswer.the-variants as answer
 use Rattle.tray_scan.proofs.Parts.{end-short, Ended, ended, read-ended}
@@ -49,10 +49,10 @@ module _ (h : TrayHeader) (entry : ScanIndexEntry) (at : ℕ) (s : List ℕ) (d 
   there : Ended h s at (j .end)
   there = ended h s at (j .event)
 
-  -- behind the entry, the room decides
-  behind-is : (lent : Lengths) → scanOfEntry lent h entry at s ≡ handOut lent entry (there .event) (j .end) (contentAt d s)
+  -- after the entry, the room decides
+  after-is : (lent : Lengths) → scanOfEntry lent h entry at s ≡ handOut lent entry (there .event) (j .end) (contentAt d s)
   unfolding scanOfEntry eventAndData withData outcome
-  behind-is lent =
+  after-is lent =
       rw (there .there)
       (sym (data-found (handOut lent entry (there .event) (j .end)) (h .«data») (entry .offset) (entry .«data_size») s (formatIn h) (j .found)))
 
@@ -61,11 +61,11 @@ module _ (h : TrayHeader) (entry : ScanIndexEntry) (at : ℕ) (s : List ℕ) (d 
 
   module _ (xs : Slices) {n : ℕ} (hn : n ≡ countOf d) where
     abbrev roomFor : Bool
-    roomFor = fits ((n, length (xs .mz)) ∷ (n, length (xs .intensity)) ∷ [])
+    roomFor = fits (n ∷ n ∷ []) (length (xs .mz) ∷ length (xs .intensity) ∷ [])
 
     pub no-pairs-room : roomFor ≡ false → Answers (λ lent. scanOfEntry lent h entry at s) xs (answer.Refused NoRoom) xs
     unfolding handOut
-    no-pairs-room f = let k = counted (there .event .coefficients) in left-refused (sym (behind-is _ ∙ rw (k, ← hn, f)))
+    no-pairs-room f = let k = counted (there .event .coefficients) in left-refused (sym (after-is _ ∙ rw (k, ← hn, f)))
 
     module _ (room : roomFor ≡ true) {ys : event.Slices} where
       pub no-event-room : (r : Refusal) (x : EventAnswer) → x ≡ eventAnswer.Refused r
@@ -75,7 +75,7 @@ module _ (h : TrayHeader) (entry : ScanIndexEntry) (at : ℕ) (s : List ℕ) (d 
       no-event-room r x hx l =
           let w = left (there .event) (j .end) (xs .event) ys (rw hx at (left-same (read-ended h s at (lentOf (xs .event)) there) l)) in
           let k = counted (there .event .coefficients) in
-          rw (w .3) (left-refused (rw (w .1, w .2) (sym (behind-is _ ∙ rw (k, ← hn, room, w .0)))))
+          rw (w .3) (left-refused (rw (w .1, w .2) (sym (after-is _ ∙ rw (k, ← hn, room, w .0)))))
 
       module _ {v : ScanEvent} (x : EventAnswer) (hx : x ≡ eventAnswer.Event v)
           (l : event.Answers (λ lent. readEvent (h .version) (h .primary) (h .dependent) lent at s) (xs .event) x ys) where
@@ -86,16 +86,16 @@ module _ (h : TrayHeader) (entry : ScanIndexEntry) (at : ℕ) (s : List ℕ) (d 
         coefficients-within = within (there .event) (j .end) (xs .event) ys event-is
 
         pub scan-result : (r : CountAnswer) {m i : List Float}
-            → LeftPairs (λ a b. handOutPairs a b (pairs (take (v .coefficients) (ys .coefficients)) (contentAt d s))) (xs .mz) (xs .intensity) r m i
+            → LeftPairs (λ a b. pairsIfFit a b (pairs (take (v .coefficients) (ys .coefficients)) (contentAt d s))) (xs .mz) (xs .intensity) r m i
             → Answers (λ lent. scanOfEntry lent h entry at s) xs (answer.Scan (record { entry = entry; event = v; pairs = n })) (record { event = ys; mz = m; intensity = i })
         unfolding handOut
         scan-result r p =
             let w = event-is in
             let ps = pairs (there .event .coefficients) (contentAt d s) in
             let size : length ps ≡ n = counted (there .event .coefficients) ∙ sym hn in
-            let z = fits-true ((n, length (xs .mz)) ∷ (n, length (xs .intensity)) ∷ []) room in
+            let z = fits-true (n ∷ n ∷ []) (length (xs .mz) ∷ length (xs .intensity) ∷ []) room in
             let both = pairs-room ps (xs .mz) (xs .intensity) r (rw size (z .0)) (rw size (z .1 .0)) (rw (front (there .event) (j .end) (xs .event) ys w) at p) in
             left-written {a = record { scan = record { entry = entry; event = decoded (there .event) (j .end) .event; pairs = length ps }; event = decoded (there .event) (j .end); pairs = ps }}
-            (sym (behind-is _ ∙ rw (size, room, w .room)))
+            (sym (after-is _ ∙ rw (size, room, w .room)))
             (rw (w .is, size))
             (rw (w .leaves, both .0, both .1))

@@ -6,17 +6,17 @@ use lib.Dec.{eqb}
 use lib.Ieee.{Float}
 use lib.ListN.{length}
 use Rattle.refusal.specs.Outcome.{Outcome, ok}
-use Rattle.refusal.specs.Number.{toldRefusal}
+use Rattle.refusal.specs.Number.{outcomeOfRefusal}
 use Rattle.lists.specs.Written.{over}
-use Rattle.lists.specs.Left.{Left, fits, ifRoom, firsts, seconds}
+use Rattle.lists.specs.Left.{Left, fits, ifFits, firsts, seconds}
 use Rattle.parser.specs.Parser.{Parser}
 use Rattle.parser.specs.Call.{Call, answer, part, outcome}
 use Rattle.scan_format.specs.Format.{formatOf}
 use Rattle.scan_format.specs.declared.ScanDataFormat.{ScanDataFormat}
 use Rattle.scan_index.specs.declared.ScanIndexEntry.{ScanIndexEntry}
-use Rattle.scan_event.specs.Event.{Event, decoded, lentOf, hasRoom}
-use Rattle.scan_event.specs.Event as event
-use Rattle.scan_event.specs.declared.Lent.{Lent}
+use Rattle.event_record.specs.Event.{Event, decoded, lentOf, hasRoom}
+use Rattle.event_record.specs.Event as event
+use Rattle.event_record.specs.declared.Lent.{Lent}
 use Rattle.event_walk.specs.Walk.{event as oneEvent}
 use Rattle.pairs.specs.Pairs.{Pair}
 use Rattle.tray_header.specs.declared.TrayHeader.{TrayHeader}
@@ -48,7 +48,7 @@ pub record Decoded : Type 0 where
 unfoldable pub handOut : Lengths → ScanIndexEntry → Event → ℕ → Content → Outcome Decoded
 handOut lent entry e next content =
     let ps = pairs (e .coefficients) content in
-    ifRoom (fits ((length ps, lent .mz) ∷ (length ps, lent .intensity) ∷ []) && hasRoom (lent .event) (length (e .preamble)) (length (e .reactions)) (length (e .coefficients)))
+    ifFits (fits (length ps ∷ length ps ∷ []) (lent .mz ∷ lent .intensity ∷ []) && hasRoom (lent .event) (length (e .preamble)) (length (e .reactions)) (length (e .coefficients)))
     (record {
       scan = record { entry = entry; event = decoded e next .event; pairs = length ps };
       event = decoded e next;
@@ -69,9 +69,9 @@ eventAndData lent h entry at = part 3 at (eventIn h) (λ e next. withData lent h
 unfoldable pub scanOfEntry : Lengths → TrayHeader → ScanIndexEntry → ℕ → List ℕ → Outcome Decoded
 scanOfEntry lent h entry at run = outcome (eventAndData lent h entry at) run
 
-abbrev pub told : ScanAnswer → Outcome Scan
-told (answer.Scan s) = ok s
-told (answer.Refused r) = toldRefusal r
+abbrev pub outcomeOf : ScanAnswer → Outcome Scan
+outcomeOf (answer.Scan s) = ok s
+outcomeOf (answer.Refused r) = outcomeOfRefusal r
 
 -- the six lent slices: the event's four, and two for the pairs; and their lengths
 pub record Slices : Type 0 where
@@ -92,4 +92,4 @@ written d xs =
 
 -- a call was lent the slices xs: it answers r, and leaves ys. The call goes by the slices' lengths
 abbrev pub Answers : (Lengths → Outcome Decoded) → Slices → ScanAnswer → Slices → Type 0
-Answers call xs r ys = Left (λ (d : Decoded). d .scan) written (call (lengthsOf xs)) xs (told r) ys
+Answers call xs r ys = Left (λ (d : Decoded). d .scan) written (call (lengthsOf xs)) xs (outcomeOf r) ys

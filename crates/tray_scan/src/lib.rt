@@ -2,13 +2,13 @@
 // anything is written.
 ghost use mathlib.Core.Path.{_≡_};
 ghost use Rattle.tray_scan.specs.Scan.{formatIn, scanOfEntry, slices, Answers};
-ghost use Rattle.tray_scan.specs.Judged.{Judged};
+ghost use Rattle.tray_scan.specs.Internal.{Judged};
+use event_record::EventAnswer;
+use event_record::ScanEvent;
 use event_walk::event_end;
 use lists::holds;
 use refusal::CountAnswer;
 use refusal::Refusal;
-use scan_event::EventAnswer;
-use scan_event::ScanEvent;
 use scan_format::ScanDataFormat;
 use scan_index::ScanIndexEntry;
 use tray_data::DataAnswer;

@@ -36,10 +36,10 @@ use denote.Triple.Walked.{says, Stays, stay-none, walkOf, goes-none, Walks, ends
 use denote.Exit.{yes}
 use denote.Triple.Clauses.{ensured, lasts}
 use Rattle.parser.specs.Parser.{parse, checkCount}
-use Rattle.binary_reader.specs.Read.{reads, toldThere}
+use Rattle.binary_reader.specs.Read.{reads, outcomeOfThere}
 use Rattle.binary_reader.specs.declared.BinaryReader.{BinaryReader}
 use Rattle.binary_reader.specs.declared.BytesAnswer.{BytesAnswer}
-use Rattle.binary_reader.proofs.Apart.{B, sliceOf, Own, Slice, slice-out}
+use Rattle.binary_reader.proofs.SplitOwnership.{B, sliceOf, Own, Slice, slice-out}
 use Rattle.binary_reader.proofs.BinaryReader as T
 use Rattle.binary_reader.proofs.BinaryReader.Laws as T′
 use Rattle.binary_reader.proofs.BytesAnswer as S
@@ -68,7 +68,7 @@ module _ {M : Type 1} (𝓤 : URA M) (H : Heap 𝓤) (A : Atoms 𝓤) (W : Given
   vals = (mach ∷ [], (vint w64 n ∷ [], (vint w64 size ∷ [], tt)))
 
   abbrev Found : BytesAnswer → Type 0
-  Found r = toldThere r ≡ reads (parse (checkCount n size) (now (d .bytes)) (d .place))
+  Found r = outcomeOfThere r ≡ reads (parse (checkCount n size) (now (d .bytes)) (d .place))
 
   abbrev Post : Val → SProp 𝓤
   Post = walkOf 𝓤 H A check.ended stayed (check.clauses 𝓤 H A mem run) .post (((κ, tt), (q, tt), tt, (d, (n, (size, tt))), vals), tt)

@@ -31,7 +31,7 @@ use denote.Triple.Table.{entered}
 use denote.Triple.Walked.{says, Stays, stay-none, walkOf, goes-none, Walks, ends-at, walked, walk-meets}
 use denote.Exit.{yes}
 use Rattle.binary_reader.specs.declared.BinaryReader.{BinaryReader}
-use Rattle.binary_reader.proofs.Apart.{B}
+use Rattle.binary_reader.proofs.SplitOwnership.{B}
 use Rattle.binary_reader.proofs.BinaryReader as T
 use Rattle.binary_reader.proofs.BinaryReader.Laws as T′
 use Rattle.binary_reader.proofs.position.Key.{name as #binary-reader·position}

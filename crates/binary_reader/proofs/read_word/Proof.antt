@@ -1,4 +1,4 @@
--- `binary_reader::read_word` meets its contract: a walk of its MIR, by hand. The borrow is opened, which gives the struct's cell and what the struct owns; of that a copy of the slice goes to `word_behind`, and another to `read_at`; the new place is stored in the cell, and the borrow is closed at the reader with that place.
+-- `binary_reader::read_word` meets its contract: a walk of its MIR, by hand. The borrow is opened, which gives the struct's cell and what the struct owns; of that a copy of the slice goes to `word_after`, and another to `read_at`; the new place is stored in the cell, and the borrow is closed at the reader with that place.
 -- All that the proof knows of the two is that they meet their contracts.
 use mathlib.Core.Path.{_≡_, refl, ap}
 use Prim.Native.Nat.{ℕ, _<_, _^_}
@@ -40,21 +40,21 @@ use denote.Triple.Table.{entered, cited}
 use denote.Triple.Walked.{says, Stays, stay-ref, stay-none, walkOf, goes-none, goes-ref, Walks, ends-at, walked, walk-meets}
 use denote.Exit.{yes}
 use Rattle.parser.specs.Parser.{parse, word}
-use Rattle.binary_reader.specs.Read.{width, reads, behind, told}
+use Rattle.binary_reader.specs.Read.{width, reads, placeAfter, outcomeOf}
 use Rattle.binary_reader.specs.declared.BinaryReader.{BinaryReader}
 use Rattle.binary_reader.specs.declared.Width.{Width}
 use Rattle.binary_reader.specs.declared.WordAnswer.{WordAnswer}
-use Rattle.binary_reader.proofs.Apart.{second, referent, moved, sliceOf, Own, Slice, slice-out, moves}
+use Rattle.binary_reader.proofs.SplitOwnership.{second, referent, moved, sliceOf, Own, Slice, slice-out, moves}
 use Rattle.binary_reader.proofs.BinaryReader as T
 use Rattle.binary_reader.proofs.BinaryReader.Laws as T′
 use Rattle.binary_reader.proofs.Width as Z
 use Rattle.binary_reader.proofs.Width.Laws as Z′
 use Rattle.binary_reader.proofs.WordAnswer as S
 use Rattle.binary_reader.proofs.WordAnswer.Laws as S′
-use Rattle.binary_reader.proofs.word_behind as word-behind
-use Rattle.binary_reader.proofs.word_behind.Symbol as word-behind-def
-use Rattle.binary_reader.proofs.word_behind.Symbol.{name as #binary-reader·word-behind}
-use Rattle.binary_reader.proofs.word_behind.Met as word-behind-thm
+use Rattle.binary_reader.proofs.word_after as word-after
+use Rattle.binary_reader.proofs.word_after.Symbol as word-after-def
+use Rattle.binary_reader.proofs.word_after.Symbol.{name as #binary-reader·word-after}
+use Rattle.binary_reader.proofs.word_after.Met as word-after-thm
 use Rattle.binary_reader.proofs.read_at as read-at
 use Rattle.binary_reader.proofs.read_at.Symbol as read-at-def
 use Rattle.binary_reader.proofs.read_at.Symbol.{name as #binary-reader·read-at}
@@ -73,8 +73,8 @@ stayed = (stay-ref (0 ∷ []) tt referent, (stay-none (λ _. Z.the-row) yes, tt)
 
 module _ {M : Type 1} (𝓤 : URA M) (H : Heap 𝓤) (A : Atoms 𝓤) (mem : Memory → SProp 𝓤) (run : Routine → Fun 𝓤) where
   -- the contracts that the proof cites
-  abbrev WordBehind : Contract 𝓤
-  WordBehind = tripleOf 𝓤 H A word-behind.signature (word-behind.spec 𝓤 H A mem run)
+  abbrev WordAfter : Contract 𝓤
+  WordAfter = tripleOf 𝓤 H A word-after.signature (word-after.spec 𝓤 H A mem run)
 
   abbrev ReadAt : Contract 𝓤
   ReadAt = tripleOf 𝓤 H A read-at.signature (read-at.spec 𝓤 H A mem run)
@@ -87,10 +87,10 @@ module _ {M : Type 1} (𝓤 : URA M) (H : Heap 𝓤) (A : Atoms 𝓤) (W : Given
   vals = (vptr b o ∷ [], (EL.vals Z.the-type Z′.the-laws size, tt))
 
   abbrev Next : ℕ → Type 0
-  Next m = m ≡ behind (h .place) (parse (word (width size)) (now (h .bytes)) (h .place))
+  Next m = m ≡ placeAfter (h .place) (parse (word (width size)) (now (h .bytes)) (h .place))
 
   abbrev Found : WordAnswer → Type 0
-  Found r = told r ≡ reads (parse (word (width size)) (now (h .bytes)) (h .place))
+  Found r = outcomeOf r ≡ reads (parse (word (width size)) (now (h .bytes)) (h .place))
 
   abbrev Post : Val → SProp 𝓤
   Post = walkOf 𝓤 H A read-word.ended stayed (read-word.clauses 𝓤 H A at-mem run) .post (((κ, (κ′, tt)), (q, (q′, tt)), bounds, x, vals), tt)
@@ -105,13 +105,13 @@ module _ {M : Type 1} (𝓤 : URA M) (H : Heap 𝓤) (A : Atoms 𝓤) (W : Given
   abbrev machine : List Val × (List Val × (List Val × Unit {0}))
   machine = (sliceOf h ∷ [], (vint w64 (h .place) ∷ [], (EL.vals Z.the-type Z′.the-laws size, tt)))
 
-  abbrev to-place : WordBehind 𝓤 H A at-mem run .Ghost
+  abbrev to-place : WordAfter 𝓤 H A at-mem run .Ghost
   to-place = (((κ′, tt), (q′, tt), tt, passed, machine), tt)
 
   abbrev to-read : ReadAt 𝓤 H A at-mem run .Ghost
   to-read = (((κ′, tt), (q′, tt), tt, passed, machine), tt)
 
-  goes-place : h .place < 2 ^ 64 → ent 𝓤 (⋆ 𝓤 H A ((‵ (flft κ′ q′) ⊛ ‵ ftrue) ∷ ‵ (Slice 𝓤 H A W (second κ′) h) ∷ [])) (WordBehind 𝓤 H A at-mem run .pre to-place)
+  goes-place : h .place < 2 ^ 64 → ent 𝓤 (⋆ 𝓤 H A ((‵ (flft κ′ q′) ⊛ ‵ ftrue) ∷ ‵ (Slice 𝓤 H A W (second κ′) h) ∷ [])) (WordAfter 𝓤 H A at-mem run .pre to-place)
   goes-place fits =
       qed W ((‵ (flft κ′ q′) ⊛ ‵ ftrue) ∷ ‵ (Slice 𝓤 H A W (second κ′) h) ∷ []) ∵ nothing ! $ owned ! Z.the-row (Is Z.the-row) (EL.makes Z.the-type Z′.the-plain 𝓤 H A) size _ sized $ fjoin ! $
       owned ! u64 (Is u64) (uint-makes 𝓤 H A W w64) (h .place) _ (refl, fits) $ fjoin ! $ move ! (2 ∷ 0 ∷ []) $ fjoin ! $ move ! (1 ∷ 0 ∷ []) $ join ! $ frame ! $ done !
@@ -122,8 +122,8 @@ module _ {M : Type 1} (𝓤 : URA M) (H : Heap 𝓤) (A : Atoms 𝓤) (W : Given
       owned ! u64 (Is u64) (uint-makes 𝓤 H A W w64) (h .place) _ (refl, fits) $ fjoin ! $ move ! (2 ∷ 0 ∷ []) $ fjoin ! $ move ! (1 ∷ 0 ∷ []) $ join ! $ frame ! $ done !
 
   -- of each callee's `ensured`, the clause alone
-  said-place : (m : ℕ) → ent 𝓤 (ensured 𝓤 H A word-behind.ended (word-behind.clauses 𝓤 H A at-mem run) (κ′, tt) passed tt m) (fact 𝓤 (Next m))
-  said-place m = exE 𝓤 _ (λ ws. snd∗ 𝓤 (sem 𝓤 H A (lasts word-behind.ended (κ′, tt) passed ws)) (fact 𝓤 (Next m)))
+  said-place : (m : ℕ) → ent 𝓤 (ensured 𝓤 H A word-after.ended (word-after.clauses 𝓤 H A at-mem run) (κ′, tt) passed tt m) (fact 𝓤 (Next m))
+  said-place m = exE 𝓤 _ (λ ws. snd∗ 𝓤 (sem 𝓤 H A (lasts word-after.ended (κ′, tt) passed ws)) (fact 𝓤 (Next m)))
 
   said-read : (r : WordAnswer) → ent 𝓤 (ensured 𝓤 H A read-at.ended (read-at.clauses 𝓤 H A at-mem run) (κ′, tt) passed tt r) (fact 𝓤 (Found r))
   said-read r = exE 𝓤 _ (λ ws. snd∗ 𝓤 (sem 𝓤 H A (lasts read-at.ended (κ′, tt) passed ws)) (fact 𝓤 (Found r)))
@@ -136,7 +136,7 @@ module _ {M : Type 1} (𝓤 : URA M) (H : Heap 𝓤) (A : Atoms 𝓤) (W : Given
       move ! (2 ∷ 3 ∷ []) $ join ! $ frame ! $ feqI ! (List Val) (vptr b o ∷ []) (vptr b o ∷ []) refl $ fjoin3 ! $
       nothing ! $ owned ! Z.the-row (Is Z.the-row) (EL.makes Z.the-type Z′.the-plain 𝓤 H A) size _ sized $ fjoin ! $ move ! (1 ∷ 0 ∷ []) $ fjoin ! $ done !
 
-  module _ (C : Calls 𝓤 H) (Λ : Loops 𝓤 H) (fm : FmC 𝓤 H (W .laws) C) (known-place : Triple 𝓤 (C #binary-reader·word-behind) (WordBehind 𝓤 H A at-mem run)) (known-read : Triple 𝓤 (C #binary-reader·read-at) (ReadAt 𝓤 H A at-mem run)) where
+  module _ (C : Calls 𝓤 H) (Λ : Loops 𝓤 H) (fm : FmC 𝓤 H (W .laws) C) (known-place : Triple 𝓤 (C #binary-reader·word-after) (WordAfter 𝓤 H A at-mem run)) (known-read : Triple 𝓤 (C #binary-reader·read-at) (ReadAt 𝓤 H A at-mem run)) where
     walk : ent 𝓤 (onEntry 𝓤 H A read-word.signature (κ, (κ′, tt)) (q, (q′, tt)) x vals) (WpFn 𝓤 H C Λ code.function (vptr b o ∷ EL.vals Z.the-type Z′.the-laws size) Post)
     walk =
         qed W ((‵ (flft κ q) ⊛ ‵ (flft κ′ q′) ⊛ ‵ ftrue) ∷ ‵ (owns (MutRef (named 0) κ (B κ′) ∷ Z.the-row ∷ []) x vals) ∷ []) ∵ enter ! C Λ code.function (vptr b o ∷ EL.vals Z.the-type Z′.the-laws size) _ $
@@ -149,11 +149,11 @@ module _ {M : Type 1} (𝓤 : URA M) (H : Heap 𝓤) (A : Atoms 𝓤) (W : Given
         let wt = LL.lawful (T.the-type (second κ′)) (T′.the-laws (second κ′)) 𝓤 H A W .typed h _ was .0 in
         assigns ! (of-opd ! (load ! (from ! (hop ! (look ! 17 refl) (fld ! refl (stop !)))) (look-in ! 0 (sub ! 0 refl (whole !))))) (from ! (stop !)) (init ! 9 refl (tt, wt .1 .0)) $
         assigns ! (of-opd ! (load ! (from ! (hop ! (look ! 17 refl) (fld ! refl (stop !)))) (look-in ! 0 (sub ! 1 refl (whole !))))) (from ! (stop !)) (init ! 7 refl (tt, wt .1 .1 .0)) $
-        -- `word_behind`
+        -- `word_after`
         move ! (1 ∷ []) $ use1 W (‵ (Own 𝓤 H A W (second κ′) h) ⊛ ‵ (Slice 𝓤 H A W (second κ′) h)) (slice-out 𝓤 H A W (second κ′) h) $ split ! $
-        move ! (6 ∷ 1 ∷ []) $ use2 W (raw (WordBehind 𝓤 H A at-mem run .pre to-place)) (goes-place (wt .1 .1 .0 .fits)) $
-        calls-at ! fm (WordBehind 𝓤 H A at-mem run) known-place to-place (and-then ! (load ! (from ! (stop !)) (look ! 9 refl)) (and-then ! (load ! (from ! (stop !)) (look ! 7 refl)) (and-then ! (load ! (from ! (stop !)) (look ! 15 refl)) (no-more !)))) (λ w.
-        use1 W (later (some (λ (m : ℕ). ((‵ (flft κ′ q′) ⊛ ‵ ftrue) ⊛ ‵ (u64 .own m (w ∷ []))) ⊛ raw (ensured 𝓤 H A word-behind.ended (word-behind.clauses 𝓤 H A at-mem run) (κ′, tt) passed tt m)))) (id⊢ 𝓤 _) $ await ! tt $ pick ! (λ m.
+        move ! (6 ∷ 1 ∷ []) $ use2 W (raw (WordAfter 𝓤 H A at-mem run .pre to-place)) (goes-place (wt .1 .1 .0 .fits)) $
+        calls-at ! fm (WordAfter 𝓤 H A at-mem run) known-place to-place (and-then ! (load ! (from ! (stop !)) (look ! 9 refl)) (and-then ! (load ! (from ! (stop !)) (look ! 7 refl)) (and-then ! (load ! (from ! (stop !)) (look ! 15 refl)) (no-more !)))) (λ w.
+        use1 W (later (some (λ (m : ℕ). ((‵ (flft κ′ q′) ⊛ ‵ ftrue) ⊛ ‵ (u64 .own m (w ∷ []))) ⊛ raw (ensured 𝓤 H A word-after.ended (word-after.clauses 𝓤 H A at-mem run) (κ′, tt) passed tt m)))) (id⊢ 𝓤 _) $ await ! tt $ pick ! (λ m.
         split ! $ move ! (1 ∷ []) $ use1 W (raw (fact 𝓤 (Next m))) (said-place m) $ heard ! (Next m) (λ e. split ! $ move ! (1 ∷ []) $
         peeks ! u64 (Is u64) (shows 𝓤 H A u64) m (w ∷ []) (λ is.
         land ! (from ! (stop !)) (init ! 14 refl (uint-lawful 𝓤 H A W w64 .typed m _ is .0)) $ rewrite ! 14 (λ (z : Val). ‵ (fat fullShare (tyInt w64) l₃ 0 z)) (ap only (is .0)) refl $ drop ! $
@@ -179,14 +179,14 @@ module _ {M : Type 1} (𝓤 : URA M) (H : Heap 𝓤) (A : Atoms 𝓤) (W : Given
         keep ! (0 ∷ 1 ∷ 2 ∷ 4 ∷ 3 ∷ []) $ by ! (exits m r u e f))))))))))))))))))
 
 module _ {M : Type 1} (𝓤 : URA M) (H : Heap 𝓤) (A : Atoms 𝓤) (W : Given 𝓤 H A) (mem : Memory → SProp 𝓤) (run : Routine → Fun 𝓤) where
-  read-word-walks : (C : Calls 𝓤 H) (Λ : Loops 𝓤 H) → FmC 𝓤 H (W .laws) C → Triple 𝓤 (C #binary-reader·word-behind) (WordBehind 𝓤 H A mem run) → Triple 𝓤 (C #binary-reader·read-at) (ReadAt 𝓤 H A mem run)
+  read-word-walks : (C : Calls 𝓤 H) (Λ : Loops 𝓤 H) → FmC 𝓤 H (W .laws) C → Triple 𝓤 (C #binary-reader·word-after) (WordAfter 𝓤 H A mem run) → Triple 𝓤 (C #binary-reader·read-at) (ReadAt 𝓤 H A mem run)
       → Walks 𝓤 H A read-word.ended stayed (WpFn 𝓤 H C Λ code.function) (read-word.clauses 𝓤 H A mem run)
   read-word-walks C Λ fm known-place known-read = walked 𝓤 H A read-word.ended stayed (read-word.clauses 𝓤 H A mem run) (WpFn 𝓤 H C Λ code.function) (λ κs. (ptr-vals, (EL.vals Z.the-type Z′.the-laws, tt))) (λ κs. (mut-tells (named 0) (κs .0) (B (κs .1 .0)), (EL.tells Z.the-type Z′.the-laws, tt)))
       (λ κs qs bounds a _ are. via 𝓤 _ (fst∗ 𝓤 _ (emp 𝓤))
       (walk 𝓤 H A W mem run (κs .0) (κs .1 .0) (qs .0) (qs .1 .0) bounds (a .0 .ptr .0) (a .0 .ptr .1) (a .0 .name) (a .0 .now) (a .1 .0) (are .1 .0) C Λ fm known-place known-read))
 
 read-word-meets : {M : Type 1} (𝓤 : URA M) (H : Heap 𝓤) (A : Atoms 𝓤) (W : Given 𝓤 H A) (mem : Memory → SProp 𝓤) (run : Routine → Fun 𝓤) (𝓣 : Tables 𝓤 H)
-    → Triple 𝓤 (𝓣 .C #binary-reader·word-behind) (WordBehind 𝓤 H A mem run) → Triple 𝓤 (𝓣 .C #binary-reader·read-at) (ReadAt 𝓤 H A mem run)
+    → Triple 𝓤 (𝓣 .C #binary-reader·word-after) (WordAfter 𝓤 H A mem run) → Triple 𝓤 (𝓣 .C #binary-reader·read-at) (ReadAt 𝓤 H A mem run)
     → Meets 𝓤 H A read-word.signature (WpFn 𝓤 H (𝓣 .C) (𝓣 .Λ) code.function) (read-word.spec 𝓤 H A mem run)
 read-word-meets 𝓤 H A W mem run 𝓣 known-place known-read = walk-meets 𝓤 H A read-word.ended stayed W (goes-ref 𝓤 H A W 2 0 tt referent, (goes-none 𝓤 H A W 2 (λ _. Z.the-row) yes (λ κs x f. refl), tt))
     (read-word.clauses 𝓤 H A mem run) (WpFn 𝓤 H (𝓣 .C) (𝓣 .Λ) code.function) (WpFn-mono 𝓤 H (W .laws) 𝓣 code.function)
@@ -198,5 +198,5 @@ read-word-spec 𝓤 H 𝓜 𝓖 𝓡 =
     entered 𝓤 H (tripleOf 𝓤 H (𝓖 .A) read-word.signature (read-word.spec 𝓤 H (𝓖 .A) (𝓜 .mem) (𝓡 .run)))
     (tables 𝓤 H 𝓜 𝓡 code.env .C) (tables 𝓤 H 𝓜 𝓡 code.env .Λ) #binary-reader·read-word code.function (code.unfolded 𝓤 H 𝓜 𝓡)
     (read-word-meets 𝓤 H (𝓖 .A) (givenOf 𝓤 H 𝓜 𝓖) (𝓜 .mem) (𝓡 .run) (tablesOf 𝓤 H 𝓜 (tables 𝓤 H 𝓜 𝓡 code.env))
-    (cited 𝓤 H (WordBehind 𝓤 H (𝓖 .A) (𝓜 .mem) (𝓡 .run)) 𝓜 𝓡 code.env #binary-reader·word-behind word-behind-def.routine code.calls-binary-reader·word-behind (word-behind-thm.met 𝓤 H 𝓜 𝓖 𝓡))
+    (cited 𝓤 H (WordAfter 𝓤 H (𝓖 .A) (𝓜 .mem) (𝓡 .run)) 𝓜 𝓡 code.env #binary-reader·word-after word-after-def.routine code.calls-binary-reader·word-after (word-after-thm.met 𝓤 H 𝓜 𝓖 𝓡))
     (cited 𝓤 H (ReadAt 𝓤 H (𝓖 .A) (𝓜 .mem) (𝓡 .run)) 𝓜 𝓡 code.env #binary-reader·read-at read-at-def.routine code.calls-binary-reader·read-at (read-at-thm.met 𝓤 H 𝓜 𝓖 𝓡)))

@@ -1,4 +1,4 @@
--- `binary_reader::skip` meets its contract: a walk of its MIR, by hand. The borrow is opened, which gives the struct's cell and what the struct owns; of that a copy of the slice goes to `place_behind`, and another to `skip_at`; the new place is stored in the cell, and the borrow is closed at the reader with that place.
+-- `binary_reader::skip` meets its contract: a walk of its MIR, by hand. The borrow is opened, which gives the struct's cell and what the struct owns; of that a copy of the slice goes to `place_after`, and another to `skip_at`; the new place is stored in the cell, and the borrow is closed at the reader with that place.
 -- All that the proof knows of the two is that they meet their contracts.
 use mathlib.Core.Path.{_≡_, refl, ap}
 use Prim.Native.Nat.{ℕ, _<_, _^_}
@@ -41,18 +41,18 @@ use denote.Triple.Walked.{says, Stays, stay-ref, stay-none, walkOf, goes-none, g
 use denote.Exit.{yes}
 use Rattle.parser.specs.Parser.{parse}
 use Rattle.parser.specs.Parser.{skip as skipped}
-use Rattle.binary_reader.specs.Read.{reads, behind, toldThere}
+use Rattle.binary_reader.specs.Read.{reads, placeAfter, outcomeOfThere}
 use Rattle.binary_reader.specs.declared.BinaryReader.{BinaryReader}
 use Rattle.binary_reader.specs.declared.BytesAnswer.{BytesAnswer}
-use Rattle.binary_reader.proofs.Apart.{second, referent, moved, sliceOf, Own, Slice, slice-out, moves}
+use Rattle.binary_reader.proofs.SplitOwnership.{second, referent, moved, sliceOf, Own, Slice, slice-out, moves}
 use Rattle.binary_reader.proofs.BinaryReader as T
 use Rattle.binary_reader.proofs.BinaryReader.Laws as T′
 use Rattle.binary_reader.proofs.BytesAnswer as S
 use Rattle.binary_reader.proofs.BytesAnswer.Laws as S′
-use Rattle.binary_reader.proofs.place_behind as place-behind
-use Rattle.binary_reader.proofs.place_behind.Symbol as place-behind-def
-use Rattle.binary_reader.proofs.place_behind.Symbol.{name as #binary-reader·place-behind}
-use Rattle.binary_reader.proofs.place_behind.Met as place-behind-thm
+use Rattle.binary_reader.proofs.place_after as place-after
+use Rattle.binary_reader.proofs.place_after.Symbol as place-after-def
+use Rattle.binary_reader.proofs.place_after.Symbol.{name as #binary-reader·place-after}
+use Rattle.binary_reader.proofs.place_after.Met as place-after-thm
 use Rattle.binary_reader.proofs.skip_at as skip-at
 use Rattle.binary_reader.proofs.skip_at.Symbol as skip-at-def
 use Rattle.binary_reader.proofs.skip_at.Symbol.{name as #binary-reader·skip-at}
@@ -71,8 +71,8 @@ stayed = (stay-ref (0 ∷ []) tt referent, (stay-none (λ _. u64) yes, tt))
 
 module _ {M : Type 1} (𝓤 : URA M) (H : Heap 𝓤) (A : Atoms 𝓤) (mem : Memory → SProp 𝓤) (run : Routine → Fun 𝓤) where
   -- the contracts that the proof cites
-  abbrev PlaceBehind : Contract 𝓤
-  PlaceBehind = tripleOf 𝓤 H A place-behind.signature (place-behind.spec 𝓤 H A mem run)
+  abbrev PlaceAfter : Contract 𝓤
+  PlaceAfter = tripleOf 𝓤 H A place-after.signature (place-after.spec 𝓤 H A mem run)
 
   abbrev SkipAt : Contract 𝓤
   SkipAt = tripleOf 𝓤 H A skip-at.signature (skip-at.spec 𝓤 H A mem run)
@@ -85,10 +85,10 @@ module _ {M : Type 1} (𝓤 : URA M) (H : Heap 𝓤) (A : Atoms 𝓤) (W : Given
   vals = (vptr b o ∷ [], (vint w64 n ∷ [], tt))
 
   abbrev Next : ℕ → Type 0
-  Next m = m ≡ behind (h .place) (parse (skipped n) (now (h .bytes)) (h .place))
+  Next m = m ≡ placeAfter (h .place) (parse (skipped n) (now (h .bytes)) (h .place))
 
   abbrev Found : BytesAnswer → Type 0
-  Found r = toldThere r ≡ reads (parse (skipped n) (now (h .bytes)) (h .place))
+  Found r = outcomeOfThere r ≡ reads (parse (skipped n) (now (h .bytes)) (h .place))
 
   abbrev Post : Val → SProp 𝓤
   Post = walkOf 𝓤 H A skip.ended stayed (skip.clauses 𝓤 H A at-mem run) .post (((κ, (κ′, tt)), (q, (q′, tt)), bounds, x, vals), tt)
@@ -103,13 +103,13 @@ module _ {M : Type 1} (𝓤 : URA M) (H : Heap 𝓤) (A : Atoms 𝓤) (W : Given
   abbrev machine : List Val × (List Val × (List Val × Unit {0}))
   machine = (sliceOf h ∷ [], (vint w64 (h .place) ∷ [], (vint w64 n ∷ [], tt)))
 
-  abbrev to-place : PlaceBehind 𝓤 H A at-mem run .Ghost
+  abbrev to-place : PlaceAfter 𝓤 H A at-mem run .Ghost
   to-place = (((κ′, tt), (q′, tt), tt, passed, machine), tt)
 
   abbrev to-skip : SkipAt 𝓤 H A at-mem run .Ghost
   to-skip = (((κ′, tt), (q′, tt), tt, passed, machine), tt)
 
-  goes-place : h .place < 2 ^ 64 → ent 𝓤 (⋆ 𝓤 H A ((‵ (flft κ′ q′) ⊛ ‵ ftrue) ∷ ‵ (Slice 𝓤 H A W (second κ′) h) ∷ [])) (PlaceBehind 𝓤 H A at-mem run .pre to-place)
+  goes-place : h .place < 2 ^ 64 → ent 𝓤 (⋆ 𝓤 H A ((‵ (flft κ′ q′) ⊛ ‵ ftrue) ∷ ‵ (Slice 𝓤 H A W (second κ′) h) ∷ [])) (PlaceAfter 𝓤 H A at-mem run .pre to-place)
   goes-place fits =
       qed W ((‵ (flft κ′ q′) ⊛ ‵ ftrue) ∷ ‵ (Slice 𝓤 H A W (second κ′) h) ∷ []) ∵ nothing ! $ owned ! u64 (Is u64) (uint-makes 𝓤 H A W w64) n _ (refl, n-fits) $ fjoin ! $
       owned ! u64 (Is u64) (uint-makes 𝓤 H A W w64) (h .place) _ (refl, fits) $ fjoin ! $ move ! (2 ∷ 0 ∷ []) $ fjoin ! $ move ! (1 ∷ 0 ∷ []) $ join ! $ frame ! $ done !
@@ -120,8 +120,8 @@ module _ {M : Type 1} (𝓤 : URA M) (H : Heap 𝓤) (A : Atoms 𝓤) (W : Given
       owned ! u64 (Is u64) (uint-makes 𝓤 H A W w64) (h .place) _ (refl, fits) $ fjoin ! $ move ! (2 ∷ 0 ∷ []) $ fjoin ! $ move ! (1 ∷ 0 ∷ []) $ join ! $ frame ! $ done !
 
   -- of each callee's `ensured`, the clause alone
-  said-place : (m : ℕ) → ent 𝓤 (ensured 𝓤 H A place-behind.ended (place-behind.clauses 𝓤 H A at-mem run) (κ′, tt) passed tt m) (fact 𝓤 (Next m))
-  said-place m = exE 𝓤 _ (λ ws. snd∗ 𝓤 (sem 𝓤 H A (lasts place-behind.ended (κ′, tt) passed ws)) (fact 𝓤 (Next m)))
+  said-place : (m : ℕ) → ent 𝓤 (ensured 𝓤 H A place-after.ended (place-after.clauses 𝓤 H A at-mem run) (κ′, tt) passed tt m) (fact 𝓤 (Next m))
+  said-place m = exE 𝓤 _ (λ ws. snd∗ 𝓤 (sem 𝓤 H A (lasts place-after.ended (κ′, tt) passed ws)) (fact 𝓤 (Next m)))
 
   said-skip : (r : BytesAnswer) → ent 𝓤 (ensured 𝓤 H A skip-at.ended (skip-at.clauses 𝓤 H A at-mem run) (κ′, tt) passed tt r) (fact 𝓤 (Found r))
   said-skip r = exE 𝓤 _ (λ ws. snd∗ 𝓤 (sem 𝓤 H A (lasts skip-at.ended (κ′, tt) passed ws)) (fact 𝓤 (Found r)))
@@ -134,7 +134,7 @@ module _ {M : Type 1} (𝓤 : URA M) (H : Heap 𝓤) (A : Atoms 𝓤) (W : Given
       move ! (2 ∷ 3 ∷ []) $ join ! $ frame ! $ feqI ! (List Val) (vptr b o ∷ []) (vptr b o ∷ []) refl $ fjoin3 ! $
       nothing ! $ owned ! u64 (Is u64) (uint-makes 𝓤 H A W w64) n _ (refl, n-fits) $ fjoin ! $ move ! (1 ∷ 0 ∷ []) $ fjoin ! $ done !
 
-  module _ (C : Calls 𝓤 H) (Λ : Loops 𝓤 H) (fm : FmC 𝓤 H (W .laws) C) (known-place : Triple 𝓤 (C #binary-reader·place-behind) (PlaceBehind 𝓤 H A at-mem run)) (known-skip : Triple 𝓤 (C #binary-reader·skip-at) (SkipAt 𝓤 H A at-mem run)) where
+  module _ (C : Calls 𝓤 H) (Λ : Loops 𝓤 H) (fm : FmC 𝓤 H (W .laws) C) (known-place : Triple 𝓤 (C #binary-reader·place-after) (PlaceAfter 𝓤 H A at-mem run)) (known-skip : Triple 𝓤 (C #binary-reader·skip-at) (SkipAt 𝓤 H A at-mem run)) where
     walk : ent 𝓤 (onEntry 𝓤 H A skip.signature (κ, (κ′, tt)) (q, (q′, tt)) x vals) (WpFn 𝓤 H C Λ code.function (vptr b o ∷ vint w64 n ∷ []) Post)
     walk =
         qed W ((‵ (flft κ q) ⊛ ‵ (flft κ′ q′) ⊛ ‵ ftrue) ∷ ‵ (owns (MutRef (named 0) κ (B κ′) ∷ u64 ∷ []) x vals) ∷ []) ∵ enter ! C Λ code.function (vptr b o ∷ vint w64 n ∷ []) _ $
@@ -147,11 +147,11 @@ module _ {M : Type 1} (𝓤 : URA M) (H : Heap 𝓤) (A : Atoms 𝓤) (W : Given
         let wt = LL.lawful (T.the-type (second κ′)) (T′.the-laws (second κ′)) 𝓤 H A W .typed h _ was .0 in
         assigns ! (of-opd ! (load ! (from ! (hop ! (look ! 17 refl) (fld ! refl (stop !)))) (look-in ! 0 (sub ! 0 refl (whole !))))) (from ! (stop !)) (init ! 9 refl (tt, wt .1 .0)) $
         assigns ! (of-opd ! (load ! (from ! (hop ! (look ! 17 refl) (fld ! refl (stop !)))) (look-in ! 0 (sub ! 1 refl (whole !))))) (from ! (stop !)) (init ! 7 refl (tt, wt .1 .1 .0)) $
-        -- `place_behind`
+        -- `place_after`
         move ! (1 ∷ []) $ use1 W (‵ (Own 𝓤 H A W (second κ′) h) ⊛ ‵ (Slice 𝓤 H A W (second κ′) h)) (slice-out 𝓤 H A W (second κ′) h) $ split ! $
-        move ! (6 ∷ 1 ∷ []) $ use2 W (raw (PlaceBehind 𝓤 H A at-mem run .pre to-place)) (goes-place (wt .1 .1 .0 .fits)) $
-        calls-at ! fm (PlaceBehind 𝓤 H A at-mem run) known-place to-place (and-then ! (load ! (from ! (stop !)) (look ! 9 refl)) (and-then ! (load ! (from ! (stop !)) (look ! 7 refl)) (and-then ! (load ! (from ! (stop !)) (look ! 15 refl)) (no-more !)))) (λ w.
-        use1 W (later (some (λ (m : ℕ). ((‵ (flft κ′ q′) ⊛ ‵ ftrue) ⊛ ‵ (u64 .own m (w ∷ []))) ⊛ raw (ensured 𝓤 H A place-behind.ended (place-behind.clauses 𝓤 H A at-mem run) (κ′, tt) passed tt m)))) (id⊢ 𝓤 _) $ await ! tt $ pick ! (λ m.
+        move ! (6 ∷ 1 ∷ []) $ use2 W (raw (PlaceAfter 𝓤 H A at-mem run .pre to-place)) (goes-place (wt .1 .1 .0 .fits)) $
+        calls-at ! fm (PlaceAfter 𝓤 H A at-mem run) known-place to-place (and-then ! (load ! (from ! (stop !)) (look ! 9 refl)) (and-then ! (load ! (from ! (stop !)) (look ! 7 refl)) (and-then ! (load ! (from ! (stop !)) (look ! 15 refl)) (no-more !)))) (λ w.
+        use1 W (later (some (λ (m : ℕ). ((‵ (flft κ′ q′) ⊛ ‵ ftrue) ⊛ ‵ (u64 .own m (w ∷ []))) ⊛ raw (ensured 𝓤 H A place-after.ended (place-after.clauses 𝓤 H A at-mem run) (κ′, tt) passed tt m)))) (id⊢ 𝓤 _) $ await ! tt $ pick ! (λ m.
         split ! $ move ! (1 ∷ []) $ use1 W (raw (fact 𝓤 (Next m))) (said-place m) $ heard ! (Next m) (λ e. split ! $ move ! (1 ∷ []) $
         peeks ! u64 (Is u64) (shows 𝓤 H A u64) m (w ∷ []) (λ is.
         land ! (from ! (stop !)) (init ! 14 refl (uint-lawful 𝓤 H A W w64 .typed m _ is .0)) $ rewrite ! 14 (λ (z : Val). ‵ (fat fullShare (tyInt w64) l₃ 0 z)) (ap only (is .0)) refl $ drop ! $
@@ -177,14 +177,14 @@ module _ {M : Type 1} (𝓤 : URA M) (H : Heap 𝓤) (A : Atoms 𝓤) (W : Given
         keep ! (0 ∷ 1 ∷ 2 ∷ 4 ∷ 3 ∷ []) $ by ! (exits m r u e f))))))))))))))))))
 
 module _ {M : Type 1} (𝓤 : URA M) (H : Heap 𝓤) (A : Atoms 𝓤) (W : Given 𝓤 H A) (mem : Memory → SProp 𝓤) (run : Routine → Fun 𝓤) where
-  skip-walks : (C : Calls 𝓤 H) (Λ : Loops 𝓤 H) → FmC 𝓤 H (W .laws) C → Triple 𝓤 (C #binary-reader·place-behind) (PlaceBehind 𝓤 H A mem run) → Triple 𝓤 (C #binary-reader·skip-at) (SkipAt 𝓤 H A mem run)
+  skip-walks : (C : Calls 𝓤 H) (Λ : Loops 𝓤 H) → FmC 𝓤 H (W .laws) C → Triple 𝓤 (C #binary-reader·place-after) (PlaceAfter 𝓤 H A mem run) → Triple 𝓤 (C #binary-reader·skip-at) (SkipAt 𝓤 H A mem run)
       → Walks 𝓤 H A skip.ended stayed (WpFn 𝓤 H C Λ code.function) (skip.clauses 𝓤 H A mem run)
   skip-walks C Λ fm known-place known-skip = walked 𝓤 H A skip.ended stayed (skip.clauses 𝓤 H A mem run) (WpFn 𝓤 H C Λ code.function) (λ κs. (ptr-vals, (uint-vals w64, tt))) (λ κs. (mut-tells (named 0) (κs .0) (B (κs .1 .0)), (uint-tells w64, tt)))
       (λ κs qs bounds a _ are. via 𝓤 _ (fst∗ 𝓤 _ (emp 𝓤))
       (walk 𝓤 H A W mem run (κs .0) (κs .1 .0) (qs .0) (qs .1 .0) bounds (a .0 .ptr .0) (a .0 .ptr .1) (a .0 .name) (a .0 .now) (a .1 .0) (are .1 .0 .1) C Λ fm known-place known-skip))
 
 skip-meets : {M : Type 1} (𝓤 : URA M) (H : Heap 𝓤) (A : Atoms 𝓤) (W : Given 𝓤 H A) (mem : Memory → SProp 𝓤) (run : Routine → Fun 𝓤) (𝓣 : Tables 𝓤 H)
-    → Triple 𝓤 (𝓣 .C #binary-reader·place-behind) (PlaceBehind 𝓤 H A mem run) → Triple 𝓤 (𝓣 .C #binary-reader·skip-at) (SkipAt 𝓤 H A mem run)
+    → Triple 𝓤 (𝓣 .C #binary-reader·place-after) (PlaceAfter 𝓤 H A mem run) → Triple 𝓤 (𝓣 .C #binary-reader·skip-at) (SkipAt 𝓤 H A mem run)
     → Meets 𝓤 H A skip.signature (WpFn 𝓤 H (𝓣 .C) (𝓣 .Λ) code.function) (skip.spec 𝓤 H A mem run)
 skip-meets 𝓤 H A W mem run 𝓣 known-place known-skip = walk-meets 𝓤 H A skip.ended stayed W (goes-ref 𝓤 H A W 2 0 tt referent, (goes-none 𝓤 H A W 2 (λ _. u64) yes (λ κs x f. refl), tt))
     (skip.clauses 𝓤 H A mem run) (WpFn 𝓤 H (𝓣 .C) (𝓣 .Λ) code.function) (WpFn-mono 𝓤 H (W .laws) 𝓣 code.function)
@@ -196,5 +196,5 @@ skip-spec 𝓤 H 𝓜 𝓖 𝓡 =
     entered 𝓤 H (tripleOf 𝓤 H (𝓖 .A) skip.signature (skip.spec 𝓤 H (𝓖 .A) (𝓜 .mem) (𝓡 .run)))
     (tables 𝓤 H 𝓜 𝓡 code.env .C) (tables 𝓤 H 𝓜 𝓡 code.env .Λ) #binary-reader·skip code.function (code.unfolded 𝓤 H 𝓜 𝓡)
     (skip-meets 𝓤 H (𝓖 .A) (givenOf 𝓤 H 𝓜 𝓖) (𝓜 .mem) (𝓡 .run) (tablesOf 𝓤 H 𝓜 (tables 𝓤 H 𝓜 𝓡 code.env))
-    (cited 𝓤 H (PlaceBehind 𝓤 H (𝓖 .A) (𝓜 .mem) (𝓡 .run)) 𝓜 𝓡 code.env #binary-reader·place-behind place-behind-def.routine code.calls-binary-reader·place-behind (place-behind-thm.met 𝓤 H 𝓜 𝓖 𝓡))
+    (cited 𝓤 H (PlaceAfter 𝓤 H (𝓖 .A) (𝓜 .mem) (𝓡 .run)) 𝓜 𝓡 code.env #binary-reader·place-after place-after-def.routine code.calls-binary-reader·place-after (place-after-thm.met 𝓤 H 𝓜 𝓖 𝓡))
     (cited 𝓤 H (SkipAt 𝓤 H (𝓖 .A) (𝓜 .mem) (𝓡 .run)) 𝓜 𝓡 code.env #binary-reader·skip-at skip-at-def.routine code.calls-binary-reader·skip-at (skip-at-thm.met 𝓤 H 𝓜 𝓖 𝓡)))

@@ -44,11 +44,11 @@ use denote.Triple.Table.{entered, cited}
 use denote.Triple.Walked.{says, Stays, stay-none, stay-none-slice, walkOf, goes-none, goes-none-slice, Walks, ends-at, walked, walk-meets}
 use denote.Exit.{yes}
 use Rattle.parser.specs.Parser.{parse, word}
-use Rattle.binary_reader.specs.Read.{width, reads, told, Moves}
+use Rattle.binary_reader.specs.Read.{width, reads, outcomeOf, Moves}
 use Rattle.binary_reader.specs.declared.BinaryReader.{BinaryReader}
 use Rattle.binary_reader.specs.declared.Width.{Width}
 use Rattle.binary_reader.specs.declared.WordAnswer.{WordAnswer}
-use Rattle.binary_reader.proofs.Apart.{second}
+use Rattle.binary_reader.proofs.SplitOwnership.{second}
 use Rattle.binary_reader.proofs.BinaryReader as T
 use Rattle.binary_reader.proofs.BinaryReader.Laws as T′
 use Rattle.binary_reader.proofs.Width as Z
@@ -94,7 +94,7 @@ module _ {M : Type 1} (𝓤 : URA M) (H : Heap 𝓤) (A : Atoms 𝓤) (W : Given
   vals = (v ∷ [], (vint w64 n ∷ [], (EL.vals Z.the-type Z′.the-laws size, tt)))
 
   abbrev Found : WordAnswer → Type 0
-  Found t = told t ≡ reads (parse (word (width size)) (now s) n)
+  Found t = outcomeOf t ≡ reads (parse (word (width size)) (now s) n)
 
   -- the reader that `new` returns, its type at the run's lifetime, and as a local of a body has it
   abbrev h : BinaryReader
@@ -186,8 +186,8 @@ module _ {M : Type 1} (𝓤 : URA M) (H : Heap 𝓤) (A : Atoms 𝓤) (W : Given
         calls-at ! fm (Read 𝓤 H A at-mem run) known-read (to-read ν l₄ δ) (and-then ! (load ! (from ! (stop !)) (look ! 5 refl)) (and-then ! (load ! (from ! (stop !)) (look ! 10 refl)) (no-more !))) (λ w.
         use1 W (later (some (λ (t : WordAnswer). ((‵ (flft (ν ∷ κ) (PosShare·left q)) ⊛ ‵ (flft κ (PosShare·right q)) ⊛ ‵ ftrue) ⊛ ‵ (S.the-row .own t (w ∷ []))) ⊛ raw (ensured 𝓤 H A read.ended (read.clauses 𝓤 H A at-mem run) (ν ∷ κ, (κ, tt)) (lent l₄ δ, (size, tt)) tt t)))) (id⊢ 𝓤 _) $ await ! tt $ pick ! (λ t.
         -- what `read_word` ensures, at some last reader
-        split ! $ move ! (1 ∷ []) $ use1 W (some (λ (zs : BinaryReader × (Unit {0} × Unit {0})). ‵ (lasts read.ended (ν ∷ κ, (κ, tt)) (lent l₄ δ, (size, tt)) zs) ⊛ raw (fact 𝓤 (Moves (word (width size)) h (told t) (zs .0))))) (id⊢ 𝓤 _) $ pick ! (λ zs.
-        split ! $ move ! (1 ∷ []) $ heard ! (Moves (word (width size)) h (told t) (zs .0)) (λ f. fsplit ! $ move ! (1 ∷ []) $ drop ! $
+        split ! $ move ! (1 ∷ []) $ use1 W (some (λ (zs : BinaryReader × (Unit {0} × Unit {0})). ‵ (lasts read.ended (ν ∷ κ, (κ, tt)) (lent l₄ δ, (size, tt)) zs) ⊛ raw (fact 𝓤 (Moves (word (width size)) h (outcomeOf t) (zs .0))))) (id⊢ 𝓤 _) $ pick ! (λ zs.
+        split ! $ move ! (1 ∷ []) $ heard ! (Moves (word (width size)) h (outcomeOf t) (zs .0)) (λ f. fsplit ! $ move ! (1 ∷ []) $ drop ! $
         -- [the last value; the tokens and the answer; the lender's part; the rest of ν; what the run owns; the others'; _6; …; _5; …; …; _3; …; _2; …; _1; …; room for _0; …]
         move ! (1 ∷ []) $ split ! $ split ! $ move ! (2 ∷ []) $ peeks ! S.the-row (Is S.the-row) (shows 𝓤 H A S.the-row) t (w ∷ []) (λ isr.
         land ! (from ! (stop !)) (init ! 19 refl (EL.lawful S.the-type S′.the-laws 𝓤 H A W tt .typed t _ isr .0)) $

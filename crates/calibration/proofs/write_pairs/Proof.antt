@@ -5,12 +5,12 @@ use Prim.Native.Nat.{_+_, _*_, _-_, _^_, min}
 use native.Mathlib.Omega.{arith}
 use lib.Ieee.{binary32, ofBits}
 use denote.Ref.{now}
-use Rattle.parser.specs.Parser.{bytes, le}
+use Rattle.parser.specs.Parser.{bytes, littleEndian}
 use Rattle.lists.proofs.Laws.{Filling, fill-none, fill-more, fill-done}
 use Rattle.reader.proofs.Words.{le-saturated}
 use Rattle.reader.proofs.Copies.{next-place}
 use Rattle.calibration.specs.Convert.{intensityAt}
-use Rattle.calibration.specs.Layout.{mzOn}
+use Rattle.calibration.specs.Internal.{mzOn}
 use borrow.Author.Needs.{needs}
 use Rattle.calibration.proofs.write_pairs.Statement.{statement}
 use Rattle.calibration.proofs.write_pairs.Tie as tie
@@ -35,7 +35,7 @@ loop-again : tie.Need-loop-again Inv-loop μ-loop
 loop-again c =
     let l = c .before .before .before .before .before .loop in
     let a = c .before .before .before .before .before .before .before .before .before .args in
-    let bits = c .before .before .u32-at .ensures ∙ ap (λ p. le (bytes (now (a .run)) p 4)) (l .inv .2) ∙ le-saturated (now (a .run)) (a .at + l .i * 4) 4 (omega arith) in (
+    let bits = c .before .before .u32-at .ensures ∙ ap (λ p. littleEndian (bytes (now (a .run)) p 4)) (l .inv .2) ∙ le-saturated (now (a .run)) (a .at + l .i * 4) 4 (omega arith) in (
       fill-more _ _ _ _ _ _ (l .inv .0) (c .before .before .before .bin-to-mz .ensures) (omega arith) (omega (arith, c .before .before .before .before .before .before .before .before .before .pre .0)),
       fill-more _ _ _ _ _ _ (l .inv .1) (c .before .widened .ensures ∙ ap (ofBits binary32) bits) (omega arith) (omega (arith, c .before .before .before .before .before .before .before .before .before .pre .1)),
       c .saturating-add .ensures ∙ next-place (a .at) (l .i) 4 (l .place) (l .inv .2),
@@ -53,23 +53,4 @@ returns c =
     (fill-done _ _ _ _ _ (l .0) (c .loop-test .left), fill-done _ _ _ _ _ (l .1) (c .loop-test .left))
 
 pub write-pairs-spec : {M : Type 1} → statement M
-write-pairs-spec =
-    tie.close
-    (tie.spec
-    Inv-loop
-    μ-loop
-    loop-holds
-    (search needs)
-    (search needs)
-    slice-write-mz
-    (search needs)
-    (search needs)
-    (search needs)
-    slice-write-intensity
-    (search needs)
-    (search needs)
-    (search needs)
-    loop-again
-    same-length
-    same-length-2
-    returns)
+write-pairs-spec = tie.close (tie.spec Inv-loop μ-loop loop-holds (search needs) (search needs) slice-write-mz (search needs) (search needs) (search needs) slice-write-intensity (search needs) (search needs) (search needs) loop-again same-length same-length-2 returns)

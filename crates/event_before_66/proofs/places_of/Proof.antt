@@ -10,23 +10,4 @@ returns c =
     placed _ _ _ (c .before .before .before .before .before .before .before .before .before .pre) (c .before .before .f64-of-bits .ensures) (c .before .f64-of-bits2 .ensures) (h .before .u64-at .ensures) (h .u64-at2 .ensures)
 
 pub places-of-spec : {M : Type 1} → statement M
-places-of-spec =
-    tie.close
-    (tie.spec
-    (search needs)
-    (search needs)
-    (search needs)
-    (search needs)
-    (search needs)
-    (search needs)
-    (search needs)
-    (search needs)
-    (search needs)
-    (search needs)
-    (search needs)
-    (search needs)
-    (search needs)
-    (search needs)
-    (search needs)
-    (search needs)
-    returns)
+places-of-spec = tie.close (tie.spec (search needs) (search needs) (search needs) (search needs) (search needs) (search needs) (search needs) (search needs) (search needs) (search needs) (search needs) (search needs) (search needs) (search needs) (search needs) (search needs) returns)

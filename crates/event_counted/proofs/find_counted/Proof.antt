@@ -2,7 +2,7 @@
 use Prim.Native.Nat.{_+_}
 use native.Mathlib.Omega.{arith}
 use denote.Ref.{now}
-use Rattle.scan_event.proofs.HandOut.{part-is}
+use Rattle.event_record.proofs.HandOut.{part-is}
 use Rattle.event_counted.proofs.Answers.{short-preamble, short-body, wrong, found}
 use borrow.Author.Needs.{needs}
 use Rattle.event_counted.proofs.find_counted.Statement.{statement}
@@ -27,28 +27,4 @@ returns-4 : tie.Need-returns-4
 returns-4 c = short-preamble _ _ _ (omega arith)
 
 pub find-counted-spec : {M : Type 1} → statement M
-find-counted-spec =
-    tie.close
-    (tie.spec
-    (search needs)
-    (search needs)
-    (search needs)
-    (search needs)
-    (search needs)
-    (search needs)
-    (search needs)
-    (search needs)
-    (search needs)
-    (search needs)
-    (search needs)
-    (search needs)
-    (search needs)
-    (search needs)
-    returns
-    (search needs)
-    (search needs)
-    (search needs)
-    (search needs)
-    returns-2
-    returns-3
-    returns-4)
+find-counted-spec = tie.close (tie.spec (search needs) (search needs) (search needs) (search needs) (search needs) (search needs) (search needs) (search needs) (search needs) (search needs) (search needs) (search needs) (search needs) (search needs) returns (search needs) (search needs) (search needs) (search needs) returns-2 returns-3 returns-4)

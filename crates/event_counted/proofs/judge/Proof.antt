@@ -1,6 +1,6 @@
 -- `event_counted::judge` meets its contract.
-use Rattle.reaction.specs.Source.{inSource}
-use Rattle.scan_event.specs.Places.{eventIn}
+use Rattle.event_reactions.specs.Source.{inSource}
+use Rattle.event_record.specs.Places.{eventIn}
 use Rattle.event_counted.specs.Layout.{countedEvent}
 use borrow.Author.Needs.{needs}
 use Rattle.event_counted.proofs.judge.Statement.{statement}
@@ -13,18 +13,4 @@ returns c =
     rw (c .end-bits2 .ensures, c .before .end-bits .ensures, c .before .before .coefficient-count .ensures, z .reactions-of .ensures, z .before .plausible-window .ensures)
 
 pub judge-spec : {M : Type 1} → statement M
-judge-spec =
-    tie.close
-    (tie.spec
-    (search needs)
-    (search needs)
-    (search needs)
-    (search needs)
-    (search needs)
-    (search needs)
-    (search needs)
-    (search needs)
-    (search needs)
-    (search needs)
-    (search needs)
-    returns)
+judge-spec = tie.close (tie.spec (search needs) (search needs) (search needs) (search needs) (search needs) (search needs) (search needs) (search needs) (search needs) (search needs) (search needs) returns)

@@ -3,7 +3,7 @@ use mathlib.Core.Path.{sym, ap, _∙_}
 use native.Mathlib.Omega.{arith}
 use denote.Ref.{now}
 use Rattle.refusal.specs.Outcome.{ok}
-use Rattle.event_counted.specs.Judged.{toldRecords}
+use Rattle.event_counted.specs.Internal.{outcomeOfRecords}
 use Rattle.event_counted.proofs.Answers.{no-count, wrong-record, sound-records, kept-most}
 use borrow.Author.Needs.{needs}
 use Rattle.event_counted.proofs.judge_body.Statement.{statement}
@@ -18,30 +18,17 @@ returns : tie.Need-returns
 returns c =
     let j = c .before .before .before in
     let k = j .before in
-    wrong-record _ _ _ (omega arith) _ (k .before .u32-at .ensures) (k .kept-count .ensures) (sym (ap toldRecords (c .before .r .given .1)) ∙ j .judge-records .ensures)
+    wrong-record _ _ _ (omega arith) _ (k .before .u32-at .ensures) (k .kept-count .ensures) (sym (ap outcomeOfRecords (c .before .r .given .1)) ∙ j .judge-records .ensures)
 
 returns-2 : tie.Need-returns-2
 returns-2 c =
     let j = c .before .before .before in
     let k = j .before in
-    let all = sym (ap toldRecords (c .before .enum-told .given .1)) ∙ j .judge-records .ensures in
+    let all = sym (ap outcomeOfRecords (c .before .enum-told .given .1)) ∙ j .judge-records .ensures in
     ap ok (c .judge .ensures) ∙ sound-records _ _ _ (omega arith) _ (k .before .u32-at .ensures) (k .kept-count .ensures) all
 
 returns-3 : tie.Need-returns-3
 returns-3 c = no-count _ _ _ (omega arith)
 
 pub judge-body-spec : {M : Type 1} → statement M
-judge-body-spec =
-    tie.close
-    (tie.spec
-    (search needs)
-    (search needs)
-    (search needs)
-    (search needs)
-    judge-records-requires
-    (search needs)
-    returns
-    (search needs)
-    (search needs)
-    returns-2
-    returns-3)
+judge-body-spec = tie.close (tie.spec (search needs) (search needs) (search needs) (search needs) judge-records-requires (search needs) returns (search needs) (search needs) returns-2 returns-3)

@@ -2,7 +2,7 @@
 use mathlib.Core.Path.{sym, ap, _∙_}
 use native.Mathlib.Omega.{arith}
 use denote.Ref.{now}
-use Rattle.reaction.specs.Reactions.{acceptable as acceptableBits}
+use Rattle.event_reactions.specs.Reactions.{acceptable as acceptableBits}
 use Rattle.event_counted.proofs.Judging.{no-precursor, bad-precursor, no-energy, sound}
 use borrow.Author.Needs.{needs}
 use Rattle.event_counted.proofs.judge_record.Statement.{statement}
@@ -31,18 +31,4 @@ returns-4 c =
     sym (no-precursor (a .start) (now (a .body)) (a .i) (omega arith))
 
 pub judge-record-spec : {M : Type 1} → statement M
-judge-record-spec =
-    tie.close
-    (tie.spec
-    (search needs)
-    (search needs)
-    (search needs)
-    (search needs)
-    (search needs)
-    (search needs)
-    (search needs)
-    returns
-    returns-2
-    (search needs)
-    returns-3
-    returns-4)
+judge-record-spec = tie.close (tie.spec (search needs) (search needs) (search needs) (search needs) (search needs) (search needs) (search needs) returns returns-2 (search needs) returns-3 returns-4)

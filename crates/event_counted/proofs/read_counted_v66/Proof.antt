@@ -1,6 +1,6 @@
 -- `event_counted::read_counted_v66` meets its contract: what was found is written.
 use Rattle.lists.proofs.Left.{left-same}
-use Rattle.scan_event.proofs.HandOut.{read-refused, read-found}
+use Rattle.event_record.proofs.HandOut.{read-refused, read-found}
 use Rattle.event_counted.proofs.Answers.{counted-then}
 use borrow.Author.Needs.{needs}
 use Rattle.event_counted.proofs.read_counted_v66.Statement.{statement}
@@ -15,16 +15,4 @@ returns-2 c =
     left-same (counted-then _ _ _ _) (read-found (rw (p .p .given .1) at (p .before .before .find-counted .ensures)) (c .before .before .before .before .before .before .before .before .write-event .ensures))
 
 pub read-counted-v66-spec : {M : Type 1} → statement M
-read-counted-v66-spec =
-    tie.close
-    (tie.spec
-    (search needs)
-    (search needs)
-    (search needs)
-    (search needs)
-    returns
-    (search needs)
-    (search needs)
-    (search needs)
-    (search needs)
-    returns-2)
+read-counted-v66-spec = tie.close (tie.spec (search needs) (search needs) (search needs) (search needs) returns (search needs) (search needs) (search needs) (search needs) returns-2)

@@ -2,7 +2,7 @@
 use Prim.Native.Nat.{_+_}
 use native.Mathlib.Omega.{arith}
 use denote.Ref.{now}
-use Rattle.scan_event.proofs.HandOut.{part-is}
+use Rattle.event_record.proofs.HandOut.{part-is}
 use Rattle.event_from_66.proofs.Answers.{short-preamble, short-body, found}
 use borrow.Author.Needs.{needs}
 use Rattle.event_from_66.proofs.find_from_66.Statement.{statement}
@@ -25,30 +25,4 @@ returns-3 : tie.Need-returns-3
 returns-3 c = short-preamble _ _ _ _ (omega arith)
 
 pub find-from-66-spec : {M : Type 1} → statement M
-find-from-66-spec =
-    tie.close
-    (tie.spec
-    (search needs)
-    (search needs)
-    (search needs)
-    (search needs)
-    (search needs)
-    (search needs)
-    (search needs)
-    (search needs)
-    (search needs)
-    (search needs)
-    (search needs)
-    (search needs)
-    (search needs)
-    (search needs)
-    (search needs)
-    (search needs)
-    (search needs)
-    (search needs)
-    (search needs)
-    (search needs)
-    (search needs)
-    returns
-    returns-2
-    returns-3)
+find-from-66-spec = tie.close (tie.spec (search needs) (search needs) (search needs) (search needs) (search needs) (search needs) (search needs) (search needs) (search needs) (search needs) (search needs) (search needs) (search needs) (search needs) (search needs) (search needs) (search needs) (search needs) (search needs) (search needs) (search needs) returns returns-2 returns-3)

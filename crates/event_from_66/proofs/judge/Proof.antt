@@ -3,8 +3,8 @@ use native.Mathlib.Omega.{arith}
 use denote.Ref.{now}
 use lib.ListN.{length}
 use mathlib.Core.Path.{ap}
-use Rattle.window.specs.declared.Found.{Found}
-use Rattle.scan_event.specs.Places.{eventIn}
+use Rattle.event_window.specs.declared.Found.{Found}
+use Rattle.event_record.specs.Places.{eventIn}
 use Rattle.event_from_66.specs.Layout.{eventOf}
 use Rattle.event_from_66.proofs.Bounds.{offset-most, word-most, source-is}
 use borrow.Author.Needs.{needs}
@@ -33,16 +33,4 @@ returns c =
     rw (c .end-bits2 .ensures, c .before .end-bits .ensures, n .coefficient-count .ensures, z .reactions-of .ensures, source-is, w .word-place .ensures, w .before .is-primary .ensures, f .find-window .ensures)
 
 pub judge-spec : {M : Type 1} → statement M
-judge-spec =
-    tie.close
-    (tie.spec
-    (search needs)
-    (search needs)
-    (search needs)
-    (search needs)
-    add-t9
-    (search needs)
-    (search needs)
-    add-end-bits
-    (search needs)
-    returns)
+judge-spec = tie.close (tie.spec (search needs) (search needs) (search needs) (search needs) add-t9 (search needs) (search needs) add-end-bits (search needs) returns)

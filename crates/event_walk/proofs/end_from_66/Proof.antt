@@ -1,7 +1,7 @@
 -- `event_walk::end_from_66` meets its contract: the preamble decides the body's size.
 use native.Mathlib.Omega.{arith}
 use denote.Ref.{now}
-use Rattle.scan_event.proofs.HandOut.{part-is}
+use Rattle.event_record.proofs.HandOut.{part-is}
 use Rattle.event_walk.proofs.Ends.{no-preamble, no-body, whole-from}
 use borrow.Author.Needs.{needs}
 use Rattle.event_walk.proofs.end_from_66.Statement.{statement}
@@ -26,20 +26,4 @@ returns-3 c =
     no-preamble (a .body-primary) (a .body-dependent) (now (a .run)) (a .at) (omega arith)
 
 pub end-from-66-spec : {M : Type 1} → statement M
-end-from-66-spec =
-    tie.close
-    (tie.spec
-    (search needs)
-    (search needs)
-    (search needs)
-    (search needs)
-    (search needs)
-    (search needs)
-    (search needs)
-    (search needs)
-    (search needs)
-    add-t17
-    (search needs)
-    returns
-    returns-2
-    returns-3)
+end-from-66-spec = tie.close (tie.spec (search needs) (search needs) (search needs) (search needs) (search needs) (search needs) (search needs) (search needs) (search needs) add-t17 (search needs) returns returns-2 returns-3)

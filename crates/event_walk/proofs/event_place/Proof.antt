@@ -3,7 +3,7 @@ use mathlib.Core.Path.{sym, ap, _∙_}
 use Prim.Native.Nat.{_-_}
 use native.Mathlib.Omega.{arith}
 use denote.Ref.{now}
-use Rattle.refusal.specs.Number.{toldCount}
+use Rattle.refusal.specs.Number.{outcomeOfCount}
 use Rattle.event_walk.proofs.Ends.{Passed, passed-none, passed-more, passed-short, passed-all}
 use borrow.Author.Needs.{needs}
 use Rattle.event_walk.proofs.event_place.Statement.{statement}
@@ -24,7 +24,7 @@ returns : tie.Need-returns Inv-loop μ-loop
 returns c =
     let a = c .before .before .before .before .before .before .before .args in
     let l = c .before .before .before .before .before .loop in
-    passed-short (a .version) (a .body-primary) (a .body-dependent) (a .start) (a .k) (now (a .run)) (l .i) (l .at) (c .before .before .before .before .loop-test .taken) (l .inv) (sym (ap toldCount (c .before .r .given .1)) ∙ c .before .before .before .event-end .ensures)
+    passed-short (a .version) (a .body-primary) (a .body-dependent) (a .start) (a .k) (now (a .run)) (l .i) (l .at) (c .before .before .before .before .loop-test .taken) (l .inv) (sym (ap outcomeOfCount (c .before .r .given .1)) ∙ c .before .before .before .event-end .ensures)
 
 add-i : tie.Need-add-i Inv-loop μ-loop
 add-i c = omega (arith, c .before .before .before .before .loop-test .taken)
@@ -36,7 +36,7 @@ loop-again : tie.Need-loop-again Inv-loop μ-loop
 loop-again c =
     let a = c .before .before .before .before .before .before .before .args in
     let l = c .before .before .before .before .before .loop in
-    passed-more (a .version) (a .body-primary) (a .body-dependent) (a .start) (a .k) (now (a .run)) (l .i) (l .at) (c .before .before .before .before .loop-test .taken) (l .inv) _ (sym (ap toldCount (c .before .next .given .1)) ∙ c .before .before .before .event-end .ensures)
+    passed-more (a .version) (a .body-primary) (a .body-dependent) (a .start) (a .k) (now (a .run)) (l .i) (l .at) (c .before .before .before .before .loop-test .taken) (l .inv) _ (sym (ap outcomeOfCount (c .before .next .given .1)) ∙ c .before .before .before .event-end .ensures)
 
 returns-2 : tie.Need-returns-2 Inv-loop μ-loop
 returns-2 c =
@@ -44,17 +44,4 @@ returns-2 c =
     passed-all (a .version) (a .body-primary) (a .body-dependent) (a .start) (a .k) (now (a .run)) (c .before .loop .inv) (c .loop-test .left)
 
 pub event-place-spec : {M : Type 1} → statement M
-event-place-spec =
-    tie.close
-    (tie.spec
-    Inv-loop
-    μ-loop
-    loop-holds
-    (search needs)
-    (search needs)
-    returns
-    (search needs)
-    add-i
-    loop-less
-    loop-again
-    returns-2)
+event-place-spec = tie.close (tie.spec Inv-loop μ-loop loop-holds (search needs) (search needs) returns (search needs) add-i loop-less loop-again returns-2)

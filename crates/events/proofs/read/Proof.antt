@@ -12,18 +12,4 @@ returns-2 : tie.Need-returns-2
 returns-2 c = left-same (before-66 _ _ _ _ _ _ (c .before .before .before .before .before .before .before .before .before .before .before .before .before .if1 .left)) (c .before .before .before .before .before .before .before .before .read-before-66 .ensures)
 
 pub read-spec : {M : Type 1} → statement M
-read-spec =
-    tie.close
-    (tie.spec
-    (search needs)
-    (search needs)
-    (search needs)
-    (search needs)
-    (search needs)
-    returns
-    (search needs)
-    (search needs)
-    (search needs)
-    (search needs)
-    (search needs)
-    returns-2)
+read-spec = tie.close (tie.spec (search needs) (search needs) (search needs) (search needs) (search needs) returns (search needs) (search needs) (search needs) (search needs) (search needs) returns-2)

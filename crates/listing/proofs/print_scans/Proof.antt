@@ -5,8 +5,8 @@ use native.Mathlib.Numerals.{add-one}
 use native.Mathlib.Omega.{arith}
 use mathlib.Core.List.{List}
 use Rattle.refusal.specs.Outcome.{Outcome, ok, andThen}
-use Rattle.refusal.specs.Number.{toldCount}
-use Rattle.tray_header.specs.Header.{readTrayHeader, told}
+use Rattle.refusal.specs.Number.{outcomeOfCount}
+use Rattle.tray_header.specs.Header.{readTrayHeader, outcomeOf}
 use Rattle.tray_header.specs.declared.TrayHeader.{TrayHeader}
 use Rattle.tray.specs.Scan.{eventOf, nextEvent}
 use Rattle.tray.proofs.Walk.{place-next}
@@ -16,7 +16,7 @@ use Rattle.listing.proofs.print_scans.Tie as tie
 
 -- what was found is event k, as long as there is a scan k
 abbrev Inv-loop : tie.InvT-loop
-Inv-loop tray count found₀ k₀ found k = (k ≤ count) × (k < count → toldCount found ≡ eventOf k tray)
+Inv-loop tray count found₀ k₀ found k = (k ≤ count) × (k < count → outcomeOfCount found ≡ eventOf k tray)
 
 abbrev μ-loop : tie.MeasureT-loop
 μ-loop tray count found₀ k₀ found k = count - k
@@ -36,24 +36,8 @@ loop-again c =
     let l = c .before .before in
     let h = l .before .before .before .before in (
       omega arith,
-      further _ _ (sym (ap told (h .h .given .1)) ∙ h .before .before .read-tray-header .ensures) (l .before .loop .k) (l .before .loop .inv .1 (l .loop-test .taken)) (c .event-behind .ensures),
+      further _ _ (sym (ap outcomeOf (h .h .given .1)) ∙ h .before .before .read-tray-header .ensures) (l .before .loop .k) (l .before .loop .inv .1 (l .loop-test .taken)) (c .event-after .ensures),
     )
 
 pub print-scans-spec : {M : Type 1} → statement M
-print-scans-spec =
-    tie.close
-    (tie.spec
-    Inv-loop
-    μ-loop
-    (search needs)
-    (search needs)
-    (search needs)
-    (search needs)
-    (search needs)
-    loop-holds
-    print-scan-requires
-    (search needs)
-    (search needs)
-    (search needs)
-    loop-again
-    (search needs))
+print-scans-spec = tie.close (tie.spec Inv-loop μ-loop (search needs) (search needs) (search needs) (search needs) (search needs) loop-holds print-scan-requires (search needs) (search needs) (search needs) loop-again (search needs))

@@ -2,7 +2,7 @@
 use mathlib.Core.Path.{_≡_, sym, _∙_}
 use denote.Ref.{now}
 use Rattle.packet_full.specs.Full.{fourOf, columns, chunkLentOf, chunkRoom}
-use Rattle.packet_full.specs.Judged.{chunksAt}
+use Rattle.packet_full.specs.Internal.{chunksAt}
 use Rattle.packet_full.proofs.HandOut.{tested, has-chunks, no-chunk-room, lists-refused, all-written}
 use borrow.Author.Needs.{needs}
 use Rattle.packet_full.proofs.hand_out.Statement.{statement}
@@ -36,8 +36,4 @@ returns-3 : tie.Need-returns-3
 returns-3 c = no-chunk-room _ _ _ _ (sym (test (c .before)) ∙ c .if1 .left)
 
 pub hand-out-spec : {M : Type 1} → statement M
-hand-out-spec =
-    tie.close
-    (tie.spec (search needs) (search needs) (search needs) (search needs) (search needs) (search needs) (search needs) (search needs) write-columns-requires (search needs)
-    (search needs) (search needs) (search needs) returns (search needs) (search needs) (search needs) (search needs) (search needs) (search needs) (search needs)
-    (search needs) returns-2 returns-3)
+hand-out-spec = tie.close (tie.spec (search needs) (search needs) (search needs) (search needs) (search needs) (search needs) (search needs) (search needs) write-columns-requires (search needs) (search needs) (search needs) (search needs) returns (search needs) (search needs) (search needs) (search needs) (search needs) (search needs) (search needs) (search needs) returns-2 returns-3)

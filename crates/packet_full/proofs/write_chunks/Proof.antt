@@ -4,8 +4,8 @@ use Prim.Native.Nat.{_-_}
 use native.Mathlib.Omega.{arith}
 use denote.Ref.{now}
 use Rattle.parser.specs.Parser.{parse, repeat}
-use Rattle.profile.specs.Profile.{chunk}
-use Rattle.packet_full.specs.Judged.{listOf, chunkList}
+use Rattle.packet_profile.specs.Profile.{chunk}
+use Rattle.packet_full.specs.Internal.{listOf, chunkList}
 use Rattle.packet_full.proofs.Writing.{Writing, writing-none, signals-size, written-all, head-there, values-there, fits, turn-by}
 use borrow.Author.Needs.{needs}
 use Rattle.packet_full.proofs.write_chunks.Statement.{statement}
@@ -92,9 +92,4 @@ returns c =
     written-all (c .before .loop .inv) all
 
 pub write-chunks-spec : {M : Type 1} → statement M
-write-chunks-spec =
-    tie.close
-    (tie.spec Inv-loop μ-loop (search needs) (search needs) loop-holds add-u32-at (search needs) (search needs) (search needs) slice-write-bins (search needs)
-    slice-write-counts (search needs) (search needs) slice-write-fudges add-copy-u32s (search needs) mul-copy-u32s sub-copy-u32s part-copy-u32s-start (search needs)
-    (search needs) (search needs) add-written add-at (search needs) (search needs) add-at-2 (search needs) (search needs) loop-again same-length same-length-2 same-length-3
-    same-length-4 returns)
+write-chunks-spec = tie.close (tie.spec Inv-loop μ-loop (search needs) (search needs) loop-holds add-u32-at (search needs) (search needs) (search needs) slice-write-bins (search needs) slice-write-counts (search needs) (search needs) slice-write-fudges add-copy-u32s (search needs) mul-copy-u32s sub-copy-u32s part-copy-u32s-start (search needs) (search needs) (search needs) add-written add-at (search needs) (search needs) add-at-2 (search needs) (search needs) loop-again same-length same-length-2 same-length-3 same-length-4 returns)

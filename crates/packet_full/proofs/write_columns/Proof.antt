@@ -17,6 +17,4 @@ returns-2 : tie.Need-returns-2
 returns-2 c = rw (c .before .before .before .before .before .before .before .before .before .before .before .before .before .before .profile .given .1) (c .before .before .before .before .before .before .before .before .write-chunks .ensures)
 
 pub write-columns-spec : {M : Type 1} → statement M
-write-columns-spec =
-    tie.close
-    (tie.spec (search needs) (search needs) write-chunks-requires returns (search needs) (search needs) (search needs) (search needs) returns-2)
+write-columns-spec = tie.close (tie.spec (search needs) (search needs) write-chunks-requires returns (search needs) (search needs) (search needs) (search needs) returns-2)

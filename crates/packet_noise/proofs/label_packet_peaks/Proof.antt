@@ -20,5 +20,4 @@ returns c =
     rw (← part-is (now (a .run)) (a .packet .«nodes_at») (a .packet .«noise_nodes» * 12) _ _ (e .before .start-in .ensures) (e .end-in .ensures)) (l .label-peaks .ensures)
 
 pub label-packet-peaks-spec : {M : Type 1} → statement M
-label-packet-peaks-spec =
-    tie.close (tie.spec (search needs) (search needs) (search needs) (search needs) part-label-peaks-end (search needs) (search needs) (search needs) (search needs) returns)
+label-packet-peaks-spec = tie.close (tie.spec (search needs) (search needs) (search needs) (search needs) part-label-peaks-end (search needs) (search needs) (search needs) (search needs) returns)

@@ -1,23 +1,23 @@
 -- Each stage decides, and then the room.
 use mathlib.Core.Path.{sym, ap, _∙_}
 use denote.Ref.{now}
-use Rattle.peak_list.specs.PeakList.{toldSkipped}
-use Rattle.scan_packet.specs.Places.{toldPlaces}
-use Rattle.scan_packet.proofs.HandOut.{handed, not-handed}
+use Rattle.packet_peak_list.specs.PeakList.{outcomeOfSkipped}
+use Rattle.packet_record.specs.Places.{outcomeOfPlaces}
+use Rattle.packet_record.proofs.HandOut.{handed, not-handed}
 use Rattle.packet_skipping.proofs.Answers.{no-peaks, no-labels, whole-packet}
 use borrow.Author.Needs.{needs}
 use Rattle.packet_skipping.proofs.read_skip_profile.Statement.{statement}
 use Rattle.packet_skipping.proofs.read_skip_profile.Tie as tie
 
 returns : tie.Need-returns
-returns c = not-handed (now (c .before .before .before .before .before .before .before .before .before .args .run)) (no-peaks _ _ _ (sym (ap toldSkipped (c .before .r .given .1)) ∙ c .before .before .before .skip-to-peaks .ensures))
+returns c = not-handed (now (c .before .before .before .before .before .before .before .before .before .args .run)) (no-peaks _ _ _ (sym (ap outcomeOfSkipped (c .before .r .given .1)) ∙ c .before .before .before .skip-to-peaks .ensures))
 
 returns-2 : tie.Need-returns-2
 returns-2 c =
     let p = c .before .before .before .before .before .before .before in
     not-handed (now (p .before .before .before .before .before .before .before .before .args .run))
-    (no-labels _ _ _ _ (sym (ap toldSkipped (p .p .given .1)) ∙ p .before .before .skip-to-peaks .ensures)
-    (sym (ap toldPlaces (c .before .r2 .given .1)) ∙ c .before .before .before .with-labels .ensures .0))
+    (no-labels _ _ _ _ (sym (ap outcomeOfSkipped (p .p .given .1)) ∙ p .before .before .skip-to-peaks .ensures)
+    (sym (ap outcomeOfPlaces (c .before .r2 .given .1)) ∙ c .before .before .before .with-labels .ensures .0))
 
 returns-3 : tie.Need-returns-3
 returns-3 c =
@@ -25,12 +25,9 @@ returns-3 c =
     let v = h .before .before .before .before .before .before in
     let p = v .before .before .before .before .before .before in
     handed (v .places .given .0 .0) _
-    (whole-packet _ _ _ _ (sym (ap toldSkipped (p .p .given .1)) ∙ p .before .before .skip-to-peaks .ensures)
-    (sym (ap toldPlaces (v .places .given .1)) ∙ v .before .before .with-labels .ensures .0))
+    (whole-packet _ _ _ _ (sym (ap outcomeOfSkipped (p .p .given .1)) ∙ p .before .before .skip-to-peaks .ensures)
+    (sym (ap outcomeOfPlaces (v .places .given .1)) ∙ v .before .before .with-labels .ensures .0))
     (h .hand-out .ensures)
 
 pub read-skip-profile-spec : {M : Type 1} → statement M
-read-skip-profile-spec =
-    tie.close
-    (tie.spec (search needs) (search needs) (search needs) (search needs) (search needs) (search needs) (search needs) returns returns-2 (search needs) (search needs)
-    (search needs) (search needs) returns-3)
+read-skip-profile-spec = tie.close (tie.spec (search needs) (search needs) (search needs) (search needs) (search needs) (search needs) (search needs) returns returns-2 (search needs) (search needs) (search needs) (search needs) returns-3)

@@ -5,7 +5,7 @@ use native.Mathlib.Omega.{arith}
 use denote.Ref.{now}
 use Rattle.lists.proofs.Laws.{Filling, fill-none, fill-more, fill-done}
 use Rattle.reader.proofs.Copies.{next-place}
-use Rattle.pairs.specs.Stored.{floatAt}
+use Rattle.pairs.specs.Internal.{floatAt}
 use Rattle.pairs.proofs.PeakPairs.{float-saturated}
 use borrow.Author.Needs.{needs}
 use Rattle.pairs.proofs.copy_floats.Statement.{statement}
@@ -39,18 +39,4 @@ returns : tie.Need-returns Inv-loop μ-loop
 returns c = fill-done _ _ _ _ _ (c .before .loop .inv .0) (c .loop-test .left)
 
 pub copy-floats-spec : {M : Type 1} → statement M
-copy-floats-spec =
-    tie.close
-    (tie.spec
-    Inv-loop
-    μ-loop
-    loop-holds
-    (search needs)
-    (search needs)
-    slice-write-out
-    (search needs)
-    (search needs)
-    (search needs)
-    loop-again
-    same-length
-    returns)
+copy-floats-spec = tie.close (tie.spec Inv-loop μ-loop loop-holds (search needs) (search needs) slice-write-out (search needs) (search needs) (search needs) loop-again same-length returns)

@@ -44,18 +44,4 @@ returns-2 c =
     counting-all (a .profile) (now (a .run)) (l .inv) (omega (arith, l .inv .passed))
 
 pub count-pairs-spec : {M : Type 1} → statement M
-count-pairs-spec =
-    tie.close
-    (tie.spec
-    Inv-loop
-    μ-loop
-    loop-holds
-    (search needs)
-    (search needs)
-    (search needs)
-    returns
-    add-pairs
-    (search needs)
-    (search needs)
-    loop-again
-    returns-2)
+count-pairs-spec = tie.close (tie.spec Inv-loop μ-loop loop-holds (search needs) (search needs) (search needs) returns add-pairs (search needs) (search needs) loop-again returns-2)

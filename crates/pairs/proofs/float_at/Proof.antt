@@ -12,12 +12,4 @@ returns-2 : tie.Need-returns-2
 returns-2 c = rw (c .before .before .if1 .left) (c .widened .ensures ∙ ap (ofBits binary32) (c .before .u32-at .ensures))
 
 pub float-at-spec : {M : Type 1} → statement M
-float-at-spec =
-    tie.close
-    (tie.spec
-    (search needs)
-    (search needs)
-    (search needs)
-    (search needs)
-    returns
-    returns-2)
+float-at-spec = tie.close (tie.spec (search needs) (search needs) (search needs) (search needs) returns returns-2)

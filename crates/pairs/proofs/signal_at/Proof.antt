@@ -24,21 +24,4 @@ returns-3 c =
     rw z (signal-there (a .fudged) (now (a .run)) (a .at) (c .before .before .u32-at .result) (c .before .before .u32-at .ensures) (omega (arith, z)) (rw (← z) (omega arith)))
 
 pub signal-at-spec : {M : Type 1} → statement M
-signal-at-spec =
-    tie.close
-    (tie.spec
-    (search needs)
-    (search needs)
-    returns
-    (search needs)
-    (search needs)
-    (search needs)
-    (search needs)
-    (search needs)
-    (search needs)
-    returns-2
-    (search needs)
-    (search needs)
-    (search needs)
-    (search needs)
-    returns-3)
+signal-at-spec = tie.close (tie.spec (search needs) (search needs) returns (search needs) (search needs) (search needs) (search needs) (search needs) (search needs) returns-2 (search needs) (search needs) (search needs) (search needs) returns-3)

@@ -14,7 +14,7 @@ write-pairs-requires : tie.Need-write-pairs-requires
 write-pairs-requires c κs =
     let a = c .before .before .before .before .before .before .before .before .before .before .args in
     let n = c .before .before .before .before .before .count-pairs .result in
-    let w = fits-true ((n, length (now (a .mz))) ∷ (n, length (now (a .intensity))) ∷ []) (sym (rw (c .before .before .before .before .holds .ensures) at (c .before .before .before .holds2 .ensures)) ∙ c .before .before .if1 .taken) in
+    let w = fits-true (n ∷ n ∷ []) (length (now (a .mz)) ∷ length (now (a .intensity)) ∷ []) (sym (rw (c .before .before .before .before .holds .ensures) at (c .before .before .before .holds2 .ensures)) ∙ c .before .before .if1 .taken) in
     rw (← c .before .before .before .before .before .count-pairs .ensures) (w .0, w .1 .0)
 
 returns : tie.Need-returns
@@ -31,5 +31,4 @@ returns-2 c =
     (sym (rw (c .before .before .holds .ensures) at (c .before .holds2 .ensures)) ∙ c .if1 .left)
 
 pub to-mz-intensity-spec : {M : Type 1} → statement M
-to-mz-intensity-spec =
-    tie.close (tie.spec (search needs) (search needs) (search needs) write-pairs-requires (search needs) (search needs) returns returns-2)
+to-mz-intensity-spec = tie.close (tie.spec (search needs) (search needs) (search needs) write-pairs-requires (search needs) (search needs) returns returns-2)

@@ -75,33 +75,4 @@ returns-2 : tie.Need-returns-2 Inv-loop μ-loop
 returns-2 c = writing-all _ _ _ _ _ (c .before .before .before .before .before .before .before .pre .0) (c .before .before .before .before .before .before .before .pre .1) (c .before .before .loop .inv) (omega (arith, c .before .before .loop .inv .passed))
 
 pub write-pairs-spec : {M : Type 1} → statement M
-write-pairs-spec =
-    tie.close
-    (tie.spec
-    Inv-loop
-    μ-loop
-    loop-holds
-    (search needs)
-    (search needs)
-    (search needs)
-    same-length
-    same-length-2
-    returns
-    (search needs)
-    (search needs)
-    mul-write-chunk
-    sub-write-chunk
-    part-write-chunk-start
-    (search needs)
-    mul-write-chunk-2
-    sub-write-chunk-2
-    part-write-chunk-start-2
-    (search needs)
-    (search needs)
-    add-n
-    add-i
-    (search needs)
-    loop-again
-    same-length-3
-    same-length-4
-    returns-2)
+write-pairs-spec = tie.close (tie.spec Inv-loop μ-loop loop-holds (search needs) (search needs) (search needs) same-length same-length-2 returns (search needs) (search needs) mul-write-chunk sub-write-chunk part-write-chunk-start (search needs) mul-write-chunk-2 sub-write-chunk-2 part-write-chunk-start-2 (search needs) (search needs) add-n add-i (search needs) loop-again same-length-3 same-length-4 returns-2)

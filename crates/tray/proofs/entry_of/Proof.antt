@@ -27,6 +27,4 @@ returns c =
     c .read .ensures ∙ ap (λ n. readEntry (a .h .version) (a .h .index + a .k * n) (now (a .run))) size
 
 pub entry-of-spec : {M : Type 1} → statement M
-entry-of-spec =
-    tie.close
-    (tie.spec (search needs) (search needs) mul-read add-read (search needs) returns)
+entry-of-spec = tie.close (tie.spec (search needs) (search needs) mul-read add-read (search needs) returns)

@@ -1,4 +1,4 @@
--- `tray::read_scan` meets its contract: a scan from the place of event k is the scan, and where there is none, one from behind
+-- `tray::read_scan` meets its contract: a scan from the place of event k is the scan, and where there is none, one from after
 -- the end.
 use mathlib.Core.Path.{ap, _∙_}
 use native.Mathlib.Omega.{arith}
@@ -6,7 +6,7 @@ use denote.Ref.{now}
 use Rattle.lists.proofs.Left.{left-same}
 use Rattle.tray_scan.specs.Scan.{slices, lengthsOf}
 use Rattle.tray.specs.Scan.{readScanFrom}
-use Rattle.tray.specs.Places.{placeOrEnd}
+use Rattle.tray.specs.Internal.{placeOrEnd}
 use Rattle.tray.proofs.Walk.{same-answers}
 use borrow.Author.Needs.{needs}
 use Rattle.tray.proofs.read_scan.Statement.{statement}
@@ -22,16 +22,4 @@ returns c =
     (c .before .before .before .before .before .before .before .before .before .before .before .before .read-scan-from .ensures)
 
 pub read-scan-spec : {M : Type 1} → statement M
-read-scan-spec =
-    tie.close
-    (tie.spec
-    (search needs)
-    (search needs)
-    (search needs)
-    (search needs)
-    (search needs)
-    (search needs)
-    (search needs)
-    (search needs)
-    (search needs)
-    returns)
+read-scan-spec = tie.close (tie.spec (search needs) (search needs) (search needs) (search needs) (search needs) (search needs) (search needs) (search needs) (search needs) returns)

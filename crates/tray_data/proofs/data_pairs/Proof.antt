@@ -14,16 +14,4 @@ unfolding pairs
 returns-2 c = rw (c .before .before .before .before .before .before .before .before .found2 .given .1) (c .before .before .before .before .peak-pairs .ensures)
 
 pub data-pairs-spec : {M : Type 1} → statement M
-data-pairs-spec =
-    tie.close
-    (tie.spec
-    (search needs)
-    (search needs)
-    (search needs)
-    (search needs)
-    (search needs)
-    (search needs)
-    returns
-    (search needs)
-    (search needs)
-    returns-2)
+data-pairs-spec = tie.close (tie.spec (search needs) (search needs) (search needs) (search needs) (search needs) (search needs) returns (search needs) (search needs) returns-2)

@@ -2,7 +2,7 @@
 use mathlib.Core.Path.{sym, ap, _∙_}
 use denote.Ref.{now}
 use Rattle.refusal.specs.Outcome.{onOk}
-use Rattle.scan_packet.specs.declared.Places.{Places}
+use Rattle.packet_record.specs.declared.Places.{Places}
 use Rattle.packet_places.specs.Places.{findPlaces}
 use Rattle.tray_data.specs.Data.{packetData, narrowPeaks, findData}
 use borrow.Author.Needs.{needs}
@@ -30,18 +30,4 @@ returns-3 c =
     c .narrow-peaks2 .ensures ∙ ap (onOk (narrowPeaks 12)) (c .before .find-srm-peaks .ensures) ∙ ap (λ f. findData f (a .«data») (a .offset) (a .size) (now (a .run))) (sym (c .before .before .enum-told3 .given .1))
 
 pub find-data-spec : {M : Type 1} → statement M
-find-data-spec =
-    tie.close
-    (tie.spec
-    (search needs)
-    (search needs)
-    (search needs)
-    (search needs)
-    (search needs)
-    (search needs)
-    (search needs)
-    (search needs)
-    (search needs)
-    returns
-    returns-2
-    returns-3)
+find-data-spec = tie.close (tie.spec (search needs) (search needs) (search needs) (search needs) (search needs) (search needs) (search needs) (search needs) (search needs) returns returns-2 returns-3)

@@ -1,6 +1,6 @@
 -- `tray_data::packet_data` meets its contract: the profile decides.
 use mathlib.Core.Path.{_≡_, sym, ap}
-use Rattle.peak_list.specs.PeakList.{itemSize}
+use Rattle.packet_peak_list.specs.PeakList.{itemSize}
 use Rattle.tray_data.specs.Data.{packetData}
 use borrow.Author.Needs.{needs}
 use Rattle.tray_data.proofs.packet_data.Statement.{statement}
@@ -16,5 +16,4 @@ returns-2 c =
     rw e (ap (λ p. packetData p v) (sym (c .before .enum-told .given .1)))
 
 pub packet-data-spec : {M : Type 1} → statement M
-packet-data-spec =
-    tie.close (tie.spec (search needs) (search needs) (search needs) returns returns-2)
+packet-data-spec = tie.close (tie.spec (search needs) (search needs) (search needs) returns returns-2)

@@ -19,5 +19,4 @@ returns-4 : tie.Need-returns-4
 returns-4 c = whole-header (now (c .before .before .before .before .before .before .before .before .args .tray)) (omega arith) (c .before .before .before .before .fields .ensures) (c .before .before .if2 .left) (c .if3 .left)
 
 pub read-tray-header-spec : {M : Type 1} → statement M
-read-tray-header-spec =
-    tie.close (tie.spec (search needs) returns (search needs) returns-2 returns-3 returns-4)
+read-tray-header-spec = tie.close (tie.spec (search needs) returns (search needs) returns-2 returns-3 returns-4)

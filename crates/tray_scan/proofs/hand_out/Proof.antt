@@ -43,28 +43,4 @@ returns-3 : tie.Need-returns-3
 returns-3 c = no-pairs-room _ _ _ _ _ (c .before .before .before .before .before .before .before .before .before .before .before .pre) _ (c .before .before .before .pair-count .ensures) (sym (rw (c .before .before .holds .ensures) at (c .before .holds2 .ensures)) ∙ c .if1 .left)
 
 pub hand-out-spec : {M : Type 1} → statement M
-hand-out-spec =
-    tie.close
-    (tie.spec
-    (search needs)
-    (search needs)
-    (search needs)
-    (search needs)
-    (search needs)
-    (search needs)
-    slice-reshare-prefix-data-pairs
-    slice-aggregate-data-pairs
-    (search needs)
-    (search needs)
-    (search needs)
-    (search needs)
-    (search needs)
-    returns
-    (search needs)
-    (search needs)
-    (search needs)
-    (search needs)
-    (search needs)
-    (search needs)
-    returns-2
-    returns-3)
+hand-out-spec = tie.close (tie.spec (search needs) (search needs) (search needs) (search needs) (search needs) (search needs) slice-reshare-prefix-data-pairs slice-aggregate-data-pairs (search needs) (search needs) (search needs) (search needs) (search needs) returns (search needs) (search needs) (search needs) (search needs) (search needs) (search needs) returns-2 returns-3)

@@ -55,22 +55,4 @@ returns-2 : tie.Need-returns-2 Inv-loop μ-loop
 returns-2 c = search needs
 
 pub bytes-spec : {M : Type 1} → statement M
-bytes-spec =
-    tie.close
-    (tie.spec
-    Inv-loop
-    μ-loop
-    slice-aggregate-put
-    put-requires
-    same-length
-    returns
-    put-byte-requires
-    loop-holds
-    shared-slice-read-wide
-    wide-requires
-    digits-requires
-    add-i
-    loop-less
-    loop-again
-    same-length-2
-    returns-2)
+bytes-spec = tie.close (tie.spec Inv-loop μ-loop slice-aggregate-put put-requires same-length returns put-byte-requires loop-holds shared-slice-read-wide wide-requires digits-requires add-i loop-less loop-again same-length-2 returns-2)

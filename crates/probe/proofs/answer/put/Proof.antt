@@ -37,16 +37,4 @@ returns : tie.Need-returns Inv-loop μ-loop
 returns c = search needs
 
 pub put-spec : {M : Type 1} → statement M
-put-spec =
-    tie.close
-    (tie.spec
-    Inv-loop
-    μ-loop
-    loop-holds
-    shared-slice-read-put-byte
-    put-byte-requires
-    add-i
-    loop-less
-    loop-again
-    same-length
-    returns)
+put-spec = tie.close (tie.spec Inv-loop μ-loop loop-holds shared-slice-read-put-byte put-byte-requires add-i loop-less loop-again same-length returns)

@@ -49,20 +49,4 @@ returns : tie.Need-returns Inv-loop μ-loop
 returns c = search needs
 
 pub slice16-spec : {M : Type 1} → statement M
-slice16-spec =
-    tie.close
-    (tie.spec
-    Inv-loop
-    μ-loop
-    slice-aggregate-put
-    put-requires
-    loop-holds
-    mul-wide16
-    shared-slice-read-wide16
-    wide16-requires
-    hex-requires
-    add-i
-    loop-less
-    loop-again
-    same-length
-    returns)
+slice16-spec = tie.close (tie.spec Inv-loop μ-loop slice-aggregate-put put-requires loop-holds mul-wide16 shared-slice-read-wide16 wide16-requires hex-requires add-i loop-less loop-again same-length returns)

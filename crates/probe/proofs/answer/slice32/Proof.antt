@@ -46,19 +46,4 @@ returns : tie.Need-returns Inv-loop μ-loop
 returns c = search needs
 
 pub slice32-spec : {M : Type 1} → statement M
-slice32-spec =
-    tie.close
-    (tie.spec
-    Inv-loop
-    μ-loop
-    slice-aggregate-put
-    put-requires
-    loop-holds
-    mul-bits32
-    shared-slice-read-bits32
-    bits32-requires
-    add-i
-    loop-less
-    loop-again
-    same-length
-    returns)
+slice32-spec = tie.close (tie.spec Inv-loop μ-loop slice-aggregate-put put-requires loop-holds mul-bits32 shared-slice-read-bits32 bits32-requires add-i loop-less loop-again same-length returns)

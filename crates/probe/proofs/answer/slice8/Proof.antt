@@ -46,19 +46,4 @@ returns : tie.Need-returns Inv-loop μ-loop
 returns c = search needs
 
 pub slice8-spec : {M : Type 1} → statement M
-slice8-spec =
-    tie.close
-    (tie.spec
-    Inv-loop
-    μ-loop
-    slice-aggregate-put
-    put-requires
-    loop-holds
-    shared-slice-read-wide
-    wide-requires
-    hex-requires
-    add-i
-    loop-less
-    loop-again
-    same-length
-    returns)
+slice8-spec = tie.close (tie.spec Inv-loop μ-loop slice-aggregate-put put-requires loop-holds shared-slice-read-wide wide-requires hex-requires add-i loop-less loop-again same-length returns)

@@ -46,19 +46,4 @@ returns : tie.Need-returns Inv-loop μ-loop
 returns c = search needs
 
 pub slice-f64-spec : {M : Type 1} → statement M
-slice-f64-spec =
-    tie.close
-    (tie.spec
-    Inv-loop
-    μ-loop
-    slice-aggregate-put
-    put-requires
-    loop-holds
-    mul-float64
-    shared-slice-read-float64
-    float64-requires
-    add-i
-    loop-less
-    loop-again
-    same-length
-    returns)
+slice-f64-spec = tie.close (tie.spec Inv-loop μ-loop slice-aggregate-put put-requires loop-holds mul-float64 shared-slice-read-float64 float64-requires add-i loop-less loop-again same-length returns)

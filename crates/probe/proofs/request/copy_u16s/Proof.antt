@@ -43,18 +43,4 @@ returns : tie.Need-returns Inv-loop μ-loop
 returns c = search needs
 
 pub copy-u16s-spec : {M : Type 1} → statement M
-copy-u16s-spec =
-    tie.close
-    (tie.spec
-    Inv-loop
-    μ-loop
-    loop-holds
-    u16-at-requires
-    mul-out
-    slice-write-out
-    saturating-add-requires
-    add-i
-    loop-less
-    loop-again
-    same-length
-    returns)
+copy-u16s-spec = tie.close (tie.spec Inv-loop μ-loop loop-holds u16-at-requires mul-out slice-write-out saturating-add-requires add-i loop-less loop-again same-length returns)

@@ -63,25 +63,4 @@ returns-7 : tie.Need-returns-7 Inv-loop μ-loop
 returns-7 c = search needs
 
 pub decimal-spec : {M : Type 1} → statement M
-decimal-spec =
-    tie.close
-    (tie.spec
-    Inv-loop
-    μ-loop
-    returns
-    returns-2
-    loop-holds
-    shared-slice-read-byte
-    returns-3
-    returns-4
-    wide-requires
-    returns-5
-    mul-if6
-    sub-if6
-    returns-6
-    mul-value
-    add-value
-    add-i
-    loop-less
-    loop-again
-    returns-7)
+decimal-spec = tie.close (tie.spec Inv-loop μ-loop returns returns-2 loop-holds shared-slice-read-byte returns-3 returns-4 wide-requires returns-5 mul-if6 sub-if6 returns-6 mul-value add-value add-i loop-less loop-again returns-7)

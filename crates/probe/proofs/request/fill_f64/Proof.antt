@@ -43,18 +43,4 @@ returns : tie.Need-returns Inv-loop μ-loop
 returns c = search needs
 
 pub fill-f64-spec : {M : Type 1} → statement M
-fill-f64-spec =
-    tie.close
-    (tie.spec
-    Inv-loop
-    μ-loop
-    loop-holds
-    add-f64-of-bits
-    f64-of-bits-requires
-    mul-lent
-    slice-write-lent
-    add-i
-    loop-less
-    loop-again
-    same-length
-    returns)
+fill-f64-spec = tie.close (tie.spec Inv-loop μ-loop loop-holds add-f64-of-bits f64-of-bits-requires mul-lent slice-write-lent add-i loop-less loop-again same-length returns)

@@ -82,31 +82,4 @@ returns-6 : tie.Need-returns-6 Inv-loop μ-loop
 returns-6 c = search needs
 
 pub unhex-spec : {M : Type 1} → statement M
-unhex-spec =
-    tie.close
-    (tie.spec
-    Inv-loop
-    μ-loop
-    returns
-    returns-2
-    returns-3
-    loop-holds
-    mul-nibble
-    shared-slice-read-nibble
-    nibble-requires
-    mul-nibble-2
-    add-nibble
-    shared-slice-read-nibble-2
-    nibble-requires-2
-    same-length
-    returns-4
-    same-length-2
-    returns-5
-    mul-data
-    add-data
-    slice-write-data
-    add-i
-    loop-less
-    loop-again
-    same-length-3
-    returns-6)
+unhex-spec = tie.close (tie.spec Inv-loop μ-loop returns returns-2 returns-3 loop-holds mul-nibble shared-slice-read-nibble nibble-requires mul-nibble-2 add-nibble shared-slice-read-nibble-2 nibble-requires-2 same-length returns-4 same-length-2 returns-5 mul-data add-data slice-write-data add-i loop-less loop-again same-length-3 returns-6)

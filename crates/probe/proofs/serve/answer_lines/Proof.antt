@@ -58,23 +58,4 @@ returns-2 : tie.Need-returns-2 Inv-loop μ-loop
 returns-2 c = search needs
 
 pub answer-lines-spec : {M : Type 1} → statement M
-answer-lines-spec =
-    tie.close
-    (tie.spec
-    Inv-loop
-    μ-loop
-    loop-holds
-    find-requires
-    sub-answer-line
-    part-answer-line-start
-    part-answer-line-end
-    answer-line-requires
-    add-at
-    loop-less
-    loop-again
-    same-length
-    same-length-2
-    returns
-    same-length-3
-    same-length-4
-    returns-2)
+answer-lines-spec = tie.close (tie.spec Inv-loop μ-loop loop-holds find-requires sub-answer-line part-answer-line-start part-answer-line-end answer-line-requires add-at loop-less loop-again same-length same-length-2 returns same-length-3 same-length-4 returns-2)

@@ -49,20 +49,4 @@ returns-2 : tie.Need-returns-2 Inv-loop μ-loop
 returns-2 c = search needs
 
 pub keep-spec : {M : Type 1} → statement M
-keep-spec =
-    tie.close
-    (tie.spec
-    Inv-loop
-    μ-loop
-    loop-holds
-    sub-loop
-    add-input
-    slice-read-input
-    slice-write-input
-    add-i
-    loop-less
-    loop-again
-    same-length
-    returns
-    same-length-2
-    returns-2)
+keep-spec = tie.close (tie.spec Inv-loop μ-loop loop-holds sub-loop add-input slice-read-input slice-write-input add-i loop-less loop-again same-length returns same-length-2 returns-2)

@@ -95,34 +95,4 @@ returns-2 : tie.Need-returns-2 Inv-loop μ-loop
 returns-2 c = search needs
 
 pub serve-spec : {M : Type 1} → statement M
-serve-spec =
-    tie.close
-    (tie.spec
-    Inv-loop
-    μ-loop
-    loop-holds
-    sub-read-full
-    part-read-full-start
-    part-read-full-end
-    read-full-requires
-    sub-finish
-    part-finish-start
-    part-finish-end
-    finish-requires
-    same-length
-    same-length-2
-    same-length-3
-    returns
-    add-end
-    sub-answer-lines
-    part-answer-lines-start
-    part-answer-lines-end
-    answer-lines-requires
-    keep-requires
-    add-round
-    loop-less
-    loop-again
-    same-length-4
-    same-length-5
-    same-length-6
-    returns-2)
+serve-spec = tie.close (tie.spec Inv-loop μ-loop loop-holds sub-read-full part-read-full-start part-read-full-end read-full-requires sub-finish part-finish-start part-finish-end finish-requires same-length same-length-2 same-length-3 returns add-end sub-answer-lines part-answer-lines-start part-answer-lines-end answer-lines-requires keep-requires add-round loop-less loop-again same-length-4 same-length-5 same-length-6 returns-2)

@@ -1,0 +1,51 @@
+-- What is the same for every bin of a chunk, worked out once. No public promise cites it.
+use Prim.Native.Nat.{ℕ}
+use mathlib.Core.Bool.{_||_, cond}
+use mathlib.Core.List.{List}
+use lib.IntN.{pos}
+use lib.ListN.{length}
+use lib.Dec.{eqb}
+use lib.Ieee.{Float, nan, binary32, binary64, add, mul, eq, ofBits, ofInt}
+use Rattle.calibration.specs.Convert.{coefficient, series}
+use Rattle.calibration.specs.declared.Bins.{Bins}
+use Rattle.calibration.specs.declared.Axis.{Axis}
+use Rattle.calibration.specs.declared.Layout.{Layout}
+use Rattle.calibration.specs.declared.Layout.the-variants.{None, Frequency, SquaredFrequency, Unknown}
+use Rattle.float_bits.specs.Numbers.{zeroF}
+
+-- the cases of `byLength`, with the coefficients that count
+abbrev pub layoutByLength : ℕ → List ℕ → Layout
+layoutByLength n cs =
+    cond (eqb n 0) None
+    (cond (eqb n 4) (Frequency (coefficient cs 1) (coefficient cs 2) (coefficient cs 3))
+    (cond (eqb n 5 || eqb n 7) (SquaredFrequency (coefficient cs 2) (coefficient cs 3) (coefficient cs 4)) Unknown))
+
+abbrev pub layoutOf : List ℕ → Layout
+layoutOf cs = layoutByLength (length cs) cs
+
+-- a frequency that is not zero
+abbrev pub converted : Layout → Float → Float
+converted None freq = freq
+converted (Frequency a b c) freq = series a b c freq
+converted (SquaredFrequency a b c) freq = series a b c (mul binary64 freq freq)
+converted Unknown freq = nan
+
+-- `freqToMz` from a layout
+abbrev pub mzBy : Layout → Float → Float
+mzBy layout freq = cond (eq freq zeroF) zeroF (converted layout freq)
+
+-- the numbers that a chunk's bits stand for
+abbrev pub axisOf : Bins → ℕ → ℕ → Axis
+axisOf bins firstBin fudge =
+    record {
+      «first_value» = ofBits binary64 (bins .«first_value»);
+      step = ofBits binary64 (bins .step);
+      «first_bin» = ofInt binary64 (pos firstBin);
+      fudge = ofBits binary32 fudge;
+    }
+
+-- `mzOf` from what was worked out
+abbrev pub mzOn : Axis → Layout → ℕ → Float
+mzOn axis layout i =
+    let binGlobal = add binary64 (axis .«first_bin») (ofInt binary64 (pos i)) in
+    add binary64 (mzBy layout (add binary64 (axis .«first_value») (mul binary64 binGlobal (axis .step)))) (axis .fudge)

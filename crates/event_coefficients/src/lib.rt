@@ -1,0 +1,43 @@
+// The calibration coefficients in the body of a scan event from version 66 on (`read_coefficients` of scan_event.rs).
+ghost use mathlib.Core.Path.{_≡_};
+ghost use Rattle.event_coefficients.specs.Coefficients.{wordPlace, coefficientCount};
+use event_window::Found;
+use event_window::Window;
+use reader::remaining;
+use reader::saturating_sub;
+use reader::u32_at;
+
+// Where the count word stands in a body of `size` bytes whose window was found, or not.
+pub fn word_place(found: Found, size: u64, primary: bool) -> u64
+    ensures { λ r. ⌜ r ≡ wordPlace found size primary ⌝ }
+{
+    let window = found.window;
+    let offset = found.offset;
+    match window {
+        Window::Absent => saturating_sub(size, 64),
+        Window::Ends(_, _) => {
+            if offset == 64 {
+                return 80;
+            }
+            if offset == 8 && size == 96 && primary {
+                return 24;
+            }
+            saturating_sub(size, 64)
+        }
+    }
+}
+
+// How many coefficients stand after the count word. A count beyond the body costs no loop.
+pub fn coefficient_count(body: &[u8], place: u64) -> u64
+    ensures { λ r. ⌜ r ≡ coefficientCount (now (body .entry)) place ⌝ }
+{
+    if 4 <= remaining(body, place) {
+        let stored = u32_at(body, place) as u64;
+        let fit = remaining(body, place + 4) / 8;
+        if stored <= fit {
+            return stored;
+        }
+        return fit;
+    }
+    0
+}

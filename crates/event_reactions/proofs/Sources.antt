@@ -1,0 +1,86 @@
+-- Where a body's reactions come from: nowhere, from its counted records, or from the record without a count.
+use mathlib.Core.Path.{_≡_, refl, ap, _∙_}
+use mathlib.Core.Bool.{Bool, true, false}
+use mathlib.Core.List.{List, [], _∷_}
+use mathlib.Core.Logic.{_⊎_, ⊎-elim}
+use Prim.Native.Nat.{ℕ, _+_, _*_, _-_, _^_, _≤_, _<_, min}
+use native.Mathlib.Omega.{arith}
+use borrow.Author.Tests.{le-leb, lt-leb}
+use lib.ListN.{length}
+use Rattle.lists.specs.Written.{each, fitting}
+use Rattle.lists.proofs.Laws.{each-same, map-each}
+use Rattle.lists.proofs.Cases.{leb-cases}
+use Rattle.parser.specs.Parser.{bytes, littleEndian, wordAt}
+use Rattle.reader.proofs.Words.{le-shifted}
+use Rattle.event_reactions.specs.Reactions.{Reaction, kept, largest, records, hasUncounted, uncounted, orElse, reactionsIn, precursors, energies}
+use Rattle.event_reactions.specs.Source.{inSource}
+use Rattle.event_reactions.specs.declared.Source.the-variants.{Every}
+
+-- the records that are read lie within the body
+pub records-fit : (body : List ℕ) (at from : ℕ) → records body at from * 32 ≤ length body
+unfolding records
+records-fit body at from =
+    ⊎-elim (λ e. rw e (omega arith)) (λ e. rw e (omega arith)) (leb-cases (littleEndian (bytes body at 4)) (largest body from))
+
+pub too-short : (tribrid : Bool) (body : List ℕ) → length body < 8 → reactionsIn tribrid body ≡ []
+unfolding reactionsIn
+too-short true body h = rw (lt-leb _ _ h)
+too-short false body h = rw (lt-leb _ _ h)
+
+or-else-some : (rs ss : List Reaction) → (length rs ≡ 0 → ⊥) → orElse rs ss ≡ rs
+or-else-some [] ss h = absurd (h refl)
+or-else-some (r ∷ rs) ss h = refl
+
+or-else-none : (rs ss : List Reaction) → length rs ≡ 0 → orElse rs ss ≡ ss
+or-else-none [] ss h = refl
+or-else-none (r ∷ rs) ss h = absurd (omega arith)
+
+or-else-most : (rs ss : List Reaction) → length rs ≤ length (orElse rs ss)
+or-else-most [] ss = omega arith
+or-else-most (r ∷ rs) ss = omega arith
+
+or-nothing : (rs : List Reaction) → orElse rs [] ≡ rs
+or-nothing [] = refl
+or-nothing (r ∷ rs) = refl
+
+-- `⊎-elim` with the sum first: what each way says is then known where it is used
+pub by-ways : {A B C : Type 0} → A ⊎ B → (A → C) → (B → C) → C
+by-ways w f g = ⊎-elim f g w
+
+-- n records are read
+module _ (body : List ℕ) (h : 8 ≤ length body) {tribrid : Bool} {n : ℕ} where
+  pub of-tribrid : tribrid ≡ true → n ≡ records body 0 4 → reactionsIn tribrid body ≡ kept body 4 n
+  unfolding reactionsIn
+  of-tribrid t e = rw (t, e, le-leb _ _ h)
+
+  module _ (t : tribrid ≡ false) (e : n ≡ records body 4 8) where
+    pub of-counted : (length (kept body 8 n) ≡ 0 → ⊥) → reactionsIn tribrid body ≡ kept body 8 n
+    unfolding reactionsIn
+    of-counted some = rw (t, le-leb _ _ h, ← e) (or-else-some _ _ some)
+
+    pub counted-within : length (kept body 8 n) ≤ length (reactionsIn tribrid body)
+    unfolding reactionsIn
+    counted-within = rw (t, le-leb _ _ h, ← e) (or-else-most (kept body 8 n) (uncounted body))
+
+    pub of-uncounted : length (kept body 8 n) ≡ 0 → hasUncounted body ≡ true → reactionsIn tribrid body ≡ (wordAt body 4 8, wordAt body 20 8) ∷ []
+    unfolding reactionsIn uncounted
+    of-uncounted none u = rw (t, le-leb _ _ h, ← e, u) (or-else-none (kept body 8 n) _ none)
+
+    pub of-neither : hasUncounted body ≡ false → reactionsIn tribrid body ≡ kept body 8 n
+    unfolding reactionsIn uncounted
+    of-neither u = rw (t, le-leb _ _ h, ← e, u) (or-nothing _)
+
+-- ---- records of which none is left out
+module _ (body : List ℕ) (from stride n : ℕ) (xs : List ℕ) {xs′ : List ℕ} where
+  pub every-precursor : xs′ ≡ fitting (each (λ i. littleEndian (bytes body (from + i * stride) 8)) n) xs → xs′ ≡ fitting (precursors (inSource body (Every from stride n))) xs
+  unfolding inSource
+  every-precursor e = e ∙ rw map-each
+
+  -- the energies' first place stops at the largest, which is after the body too
+  pub every-energy : length body < 2 ^ 64 → {at : ℕ} → at ≡ min (from + 16) (2 ^ 64 - 1)
+      → xs′ ≡ fitting (each (λ i. littleEndian (bytes body (at + i * stride) 8)) n) xs → xs′ ≡ fitting (energies (inSource body (Every from stride n))) xs
+  unfolding inSource
+  every-energy few h e =
+      let place : (i : ℕ) → from + 16 + i * stride ≡ from + i * stride + 16 = λ i. omega arith in
+      let same = each-same _ _ n (λ i. le-shifted body (from + 16) (i * stride) 8 few ∙ ap (λ (p : ℕ). littleEndian (bytes body p 8)) (place i)) in
+      e ∙ rw (h, map-each, same)

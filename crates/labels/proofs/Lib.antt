@@ -1,4 +1,0 @@
-pub mod Streams
-pub mod Answers
-pub mod Told
-pub mod LongerBytes

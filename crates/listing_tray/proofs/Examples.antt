@@ -1,0 +1,44 @@
+-- Document 01's worked case, from the tray's bytes to the listing's: antt computes it.
+use mathlib.Core.Path.{_≡_, refl}
+use Prim.Native.Nat.{ℕ}
+use mathlib.Core.List.{List, [], _∷_, _++_}
+use lib.Ieee.{ofBits, toBits, ofInt, round, eq, lt, le}
+use lib.ListN.{replicate}
+use Rattle.lists.specs.Written.{each, over}
+use Rattle.text.specs.Text.{ascii}
+use Rattle.parser.specs.Parser.{parse, repeat}
+use Rattle.parser.specs.Call.{outcome}
+use Rattle.event_preamble.specs.Size.{sizeForVersion}
+use Rattle.scan_format.specs.Format.{formatOf}
+use Rattle.scan_index.specs.Entry.{layout}
+use Rattle.event_record.specs.Event.{describe}
+use Rattle.event_before_66.specs.Layout.{head, reaction, middle, tail, before66}
+use Rattle.event_walk.specs.Walk.{event}
+use Rattle.srm_flat_peaks.specs.Flat.{least, limit, peaksFrom, attempt, attempts, flatPeaks}
+use Rattle.peaks.specs.Peaks.{peak}
+use Rattle.pairs.specs.Pairs.{peakPairs}
+use Rattle.float_ten_thousandths.specs.TenThousandths.{scaled, tenThousandths}
+use Rattle.float_bits.specs.Numbers.{largestMass}
+use Rattle.listing_lines.specs.Lines.{digit, decimalBy, decimal, hexadecimal, trayLine, scanLines}
+use Rattle.tray_header.specs.Header.{header, judged, readHeader}
+use Rattle.tray_data.specs.Data.{scanData, pairs}
+use Rattle.tray_scan.specs.Scan.{handOut, withData}
+use Rattle.tray.specs.Scan.{entryIn, kthEvent, scanIn, scanOf}
+use Rattle.listing_tray.specs.Listing.{scansText, listing}
+
+-- version 8, flat, no bodies, one scan; index 0, events 72, data 149
+abbrev words : List ℕ
+words =
+    8 ∷ 0 ∷ 0 ∷ 0 ∷ 1 ∷ 0 ∷ 0 ∷ 0 ∷ 0 ∷ 0 ∷ 0 ∷ 0 ∷ 0 ∷ 0 ∷ 0 ∷ 0
+    ∷ 1 ∷ 0 ∷ 0 ∷ 0 ∷ 0 ∷ 0 ∷ 0 ∷ 0 ∷ 72 ∷ 0 ∷ 0 ∷ 0 ∷ 149 ∷ 0 ∷ 0 ∷ 0 ∷ []
+
+-- offset 9 and data size 2, all else zero; an event of 77 zero bytes; the peak 500.03125, 2.0 and its flag
+abbrev run : List ℕ
+run =
+    9 ∷ (replicate 19 0 ++ 2 ∷ (replicate 51 0 ++ (replicate 77 0
+    ++ (0x00 ∷ 0x04 ∷ 0xfa ∷ 0x43 ∷ 0x00 ∷ 0x00 ∷ 0x00 ∷ 0x40 ∷ 0 ∷ []))))
+
+pub worked-case : listing (words ++ run)
+    ≡ ascii "T 8 1" ++ 10 ∷ (ascii "S 0 1 0" ++ 10 ∷ (ascii "5000313 4000000000000000" ++ 10 ∷ []))
+unfolding ofBits toBits ofInt round eq lt le each over parse repeat outcome sizeForVersion formatOf layout describe head reaction middle tail before66 event least limit peaksFrom attempt attempts flatPeaks peak peakPairs scaled tenThousandths largestMass digit decimalBy decimal hexadecimal trayLine scanLines header judged readHeader scanData pairs entryIn kthEvent handOut withData scanIn scanOf scansText listing
+worked-case = refl

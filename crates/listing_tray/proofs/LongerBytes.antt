@@ -1,0 +1,175 @@
+-- Demand 3 for the texts of the header and of a scan: a text that is not `X k 1 part` is also the text for all longer bytes,
+-- with every element of the lent slice, and `X k 1 part` is written only if there are longer bytes on which the text is another.
+use mathlib.Core.Path.{_≡_, refl, sym, ap, _∙_}
+use mathlib.Core.Logic.{inl, inr}
+use Prim.Native.Nat.{ℕ, _+_, _^_, _<_}
+use native.Mathlib.Omega.{arith}
+use mathlib.Core.List.{List, [], _∷_, _++_, append-assoc}
+use lib.Dec.{lit<}
+use lib.ListN.{length, getD, drop}
+use lib.Seq.{drop-append-seam}
+use Rattle.refusal.specs.Outcome.{Outcome, ok, refused, ranOut, onOk}
+use Rattle.refusal.specs.Number.{partNumber, number, carried, outcomeOfRefusal}
+use Rattle.refusal.specs.declared.Part.{Part}
+use Rattle.refusal.specs.declared.Part.the-variants.{Header, Index, Event, Data}
+use Rattle.refusal.specs.declared.Refusal.{Refusal}
+use Rattle.refusal.specs.declared.Refusal.the-variants.{Short, UnrecognizedScanRecord, InvalidPrecursorMz, BodyTooShort, FlatWord, TooManyScans, NoSuchScan, NoRoom, MassOutOfRange}
+use Rattle.refusal.specs.declared.CountAnswer.{CountAnswer}
+use Rattle.refusal.proofs.OneAnswer.{count-one}
+use Rattle.lists.specs.Left.{LeftList}
+use Rattle.parser.specs.LongerBytes.{Bytes, Held, PrefixProperty, CompletesOn}
+use Rattle.text.specs.Text.{ascii}
+use Rattle.listing_lines.specs.Lines.{digit, decimalBy, decimal, partIn, refusedLine, trayLine, scanLines}
+use Rattle.tray_header.specs.Header.{readTrayHeader}
+use Rattle.tray_header.specs.Header as header
+use Rattle.tray_header.specs.declared.TrayHeader.{TrayHeader}
+use Rattle.tray_header.specs.declared.TrayHeaderAnswer.{TrayHeaderAnswer}
+use Rattle.tray_header.specs.declared.TrayHeaderAnswer.the-variants as headerAnswer
+use Rattle.tray_header.proofs.LongerBytes.{tray-header-prefix, tray-header-completes}
+use Rattle.tray_scan.specs.Scan.{Decoded, outcomeOf}
+use Rattle.tray_scan.specs.declared.ScanAnswer.{ScanAnswer}
+use Rattle.tray_scan.specs.declared.ScanAnswer.the-variants as answer
+use Rattle.tray.specs.Scan.{readScanFrom}
+use Rattle.tray.proofs.AnyLimit.{ScanPart, FromNear}
+use Rattle.tray.proofs.LongerBytes.{from-prefix, from-completes}
+use Rattle.listing_tray.specs.Listing.{lent, scanText, headerText}
+
+-- ---- a refusal's line says which refusal it is
+-- number and part, and what stands between them
+tail : ℕ → List ℕ → List ℕ
+tail n carries = decimal n ++ (ascii " " ++ (decimal (partIn n carries) ++ ascii "\n"))
+
+tail-says : (r : Refusal) → (getD (tail (number r) (carried r)) 0 0 ≡ 48 + number r) × (getD (tail (number r) (carried r)) 2 0 ≡ 48 + partIn (number r) (carried r))
+unfolding tail digit decimalBy decimal
+tail-says (Short Header) = (refl, refl)
+tail-says (Short Index) = (refl, refl)
+tail-says (Short Event) = (refl, refl)
+tail-says (Short Data) = (refl, refl)
+tail-says UnrecognizedScanRecord = (refl, refl)
+tail-says (InvalidPrecursorMz place bits) = (refl, refl)
+tail-says BodyTooShort = (refl, refl)
+tail-says FlatWord = (refl, refl)
+tail-says TooManyScans = (refl, refl)
+tail-says NoSuchScan = (refl, refl)
+tail-says NoRoom = (refl, refl)
+tail-says MassOutOfRange = (refl, refl)
+
+-- only a refusal 1 has a part
+short-is : (r : Refusal) {p : ℕ} → number r ≡ 1 → partIn (number r) (carried r) ≡ p → carried r ≡ p ∷ []
+short-is (Short part) h e = cc
+short-is UnrecognizedScanRecord h e = absurd (omega arith)
+short-is (InvalidPrecursorMz place bits) h e = absurd (omega arith)
+short-is BodyTooShort h e = absurd (omega arith)
+short-is FlatWord h e = absurd (omega arith)
+short-is TooManyScans h e = absurd (omega arith)
+short-is NoSuchScan h e = absurd (omega arith)
+short-is NoRoom h e = absurd (omega arith)
+short-is MassOutOfRange h e = absurd (omega arith)
+
+-- `X k 1 part`
+abbrev pub ranOutLine : ℕ → Part → List ℕ
+ranOutLine k part = refusedLine k 1 (partNumber part ∷ [])
+
+module _ (k : ℕ) where
+  -- after the number of the scan
+  head : List ℕ
+  head = ascii "X" ++ (ascii " " ++ (decimal k ++ ascii " "))
+
+  line-tail : (n : ℕ) (carries : List ℕ) → drop (length head) (refusedLine k n carries) ≡ tail n carries
+  unfolding head tail
+  line-tail n carries =
+      let e : refusedLine k n carries ≡ head ++ tail n carries = simp append-assoc in
+      rw e (drop-append-seam head (tail n carries))
+
+  line-one : {A : Type 0} (r : Refusal) (part : Part) → refusedLine k (number r) (carried r) ≡ ranOutLine k part → outcomeOfRefusal {A = A} r ≡ ranOut (partNumber part)
+  line-one r part h =
+      let same : tail (number r) (carried r) ≡ tail 1 (partNumber part ∷ []) = sym (line-tail (number r) (carried r)) ∙ ap (drop (length head)) h ∙ line-tail 1 (partNumber part ∷ []) in
+      let mine = tail-says r in
+      let its = tail-says (Short part) in
+      let one : number r ≡ 1 = omega (arith, mine .0, its .0, ap (λ l. getD l 0 0) same) in
+      let p : partIn (number r) (carried r) ≡ partNumber part = omega (arith, mine .1, its .1, ap (λ l. getD l 2 0) same) in
+      rw (one, short-is r one p)
+
+-- ---- the text of any outcome whose refusals have such lines
+-- the outcome is what an answer tells
+abbrev OneAnswer : {A : Type 0} → Outcome A → Type 0
+OneAnswer (ok a) = Unit {0}
+OneAnswer (refused n carries) = (r : Refusal) × (n ≡ number r) × (carries ≡ carried r)
+
+module _ {A : Type 0} (k : ℕ) (text : Outcome A → List ℕ) (line : (n : ℕ) (carries : List ℕ) → text (refused n carries) ≡ refusedLine k n carries)
+    (value : (a : A) (part : Part) → text (ok a) ≡ ranOutLine k part → ⊥) where
+  text-one : (o : Outcome A) (part : Part) → OneAnswer o → text o ≡ ranOutLine k part → o ≡ ranOut (partNumber part)
+  text-one (ok a) part t h = absurd (value a part h)
+  text-one (refused n carries) part t h = rw (t .1, t .2) (line-one k (t .0) part (rw (t .1, t .2) at (sym (line n carries) ∙ h)))
+
+  module _ (f : List ℕ → Outcome A) where
+    text-stays : PrefixProperty f → (s t xs ys zs : List ℕ) (r q : CountAnswer) → LeftList (text (f s)) xs r ys → LeftList (text (f (s ++ t))) xs q zs
+        → ((part : ℕ) → text (f s) ≡ refusedLine k 1 (part ∷ []) → ⊥) → (q ≡ r) × (zs ≡ ys)
+    text-stays prefix s t xs ys zs r q l m never =
+        let same : text (f (s ++ t)) ≡ text (f s) = ap text (prefix s t (λ part h. never part (ap text h ∙ line 1 (part ∷ [])))) in
+        let n = rw same at m in
+        (count-one q r (n .answered ∙ sym (l .answered)), n .stands ∙ sym (l .stands))
+
+    text-completes : (part : Part) (s : List ℕ) → CompletesOn (partNumber part) f s → OneAnswer (f s) → text (f s) ≡ ranOutLine k part
+        → (t : List ℕ) × Held (s ++ t) × (OneAnswer (f (s ++ t)) → text (f (s ++ t)) ≡ ranOutLine k part → ⊥)
+    text-completes part s c e h =
+        let w = c (text-one (f s) part e h) in
+        (w .0, w .1, λ g i. w .2 (text-one (f (s ++ w .0)) part g i))
+
+-- ---- the header's text
+-- what `read_tray_header` answers
+abbrev pub ReadsHeader : List ℕ → TrayHeaderAnswer → Type 0
+ReadsHeader s x = header.outcomeOf x ≡ readTrayHeader s
+
+header-outcome : (x : TrayHeaderAnswer) (o : Outcome TrayHeader) → header.outcomeOf x ≡ o → OneAnswer o
+header-outcome x (ok h) e = tt
+header-outcome (headerAnswer.Header h) (refused n carries) e = let z : _≡_ {A = ℕ} 0 1 = cc in absurd (omega arith)
+header-outcome (headerAnswer.Refused r) (refused n carries) e = (r, (cc), (cc))
+
+header-value : (h : TrayHeader) (part : Part) → headerText (ok h) ≡ ranOutLine 0 part → ⊥
+unfolding trayLine
+header-value h part e = let n : _≡_ {A = ℕ} 84 88 = cc in omega arith
+
+pub list-header-stays : (s t xs ys zs : List ℕ) (r q : CountAnswer) → LeftList (headerText (readTrayHeader s)) xs r ys → LeftList (headerText (readTrayHeader (s ++ t))) xs q zs
+    → ((part : ℕ) → headerText (readTrayHeader s) ≡ refusedLine 0 1 (part ∷ []) → ⊥) → (q ≡ r) × (zs ≡ ys)
+list-header-stays = text-stays 0 headerText (λ _ _. refl) header-value readTrayHeader tray-header-prefix
+
+pub list-header-completes : (s : List ℕ) (x : TrayHeaderAnswer) → Bytes s → length s < 2 ^ 62 → ReadsHeader s x → headerText (readTrayHeader s) ≡ ranOutLine 0 Header
+    → (t : List ℕ) × Held (s ++ t) × ((y : TrayHeaderAnswer) → ReadsHeader (s ++ t) y → headerText (readTrayHeader (s ++ t)) ≡ ranOutLine 0 Header → ⊥)
+list-header-completes s x isBytes few e h =
+    let w = text-completes 0 headerText (λ _ _. refl) header-value readTrayHeader Header s (tray-header-completes s isBytes few (lit< tt)) (header-outcome x _ e) h in
+    (w .0, w .1, λ y f. w .2 (header-outcome y _ f))
+
+-- ---- the text of scan k, whose event stands at a place
+scan-outcome : (x : ScanAnswer) (o : Outcome Decoded) → outcomeOf x ≡ onOk (λ (d : Decoded). d .scan) o → OneAnswer o
+scan-outcome x (ok d) e = tt
+scan-outcome (answer.Scan v) (refused n carries) e = let z : _≡_ {A = ℕ} 0 1 = cc in absurd (omega arith)
+scan-outcome (answer.Refused r) (refused n carries) e = (r, (cc), (cc))
+
+module _ (k at : ℕ) where
+  abbrev pub scanTextOn : List ℕ → List ℕ
+  scanTextOn s = scanText k (readScanFrom lent k at s)
+
+  -- what `read_scan_from` answers
+  abbrev pub Reads : List ℕ → ScanAnswer → Type 0
+  Reads s x = outcomeOf x ≡ onOk (λ (d : Decoded). d .scan) (readScanFrom lent k at s)
+
+  scan-value : (d : Decoded) (part : Part) → scanText k (ok d) ≡ ranOutLine k part → ⊥
+  unfolding scanLines
+  scan-value d part e = let n : _≡_ {A = ℕ} 83 88 = cc in omega arith
+
+  pub list-scan-stays : (s t xs ys zs : List ℕ) (r q : CountAnswer) → LeftList (scanTextOn s) xs r ys → LeftList (scanTextOn (s ++ t)) xs q zs
+      → ((part : ℕ) → scanTextOn s ≡ refusedLine k 1 (part ∷ []) → ⊥) → (q ≡ r) × (zs ≡ ys)
+  list-scan-stays = text-stays k (scanText k) (λ _ _. refl) scan-value (readScanFrom lent k at) (from-prefix lent k at)
+
+  scan-part : (part : Part) → ScanPart (partNumber part)
+  scan-part Header = inl refl
+  scan-part Index = inr (inl refl)
+  scan-part Event = inr (inr (inl refl))
+  scan-part Data = inr (inr (inr refl))
+
+  pub list-scan-completes : (part : Part) (s : List ℕ) (x : ScanAnswer) → Bytes s → length s < 2 ^ 62 → FromNear 4096 6 k at (partNumber part) s → Reads s x → scanTextOn s ≡ ranOutLine k part
+      → (t : List ℕ) × Held (s ++ t) × ((y : ScanAnswer) → Reads (s ++ t) y → scanTextOn (s ++ t) ≡ ranOutLine k part → ⊥)
+  list-scan-completes part s x isBytes few near e h =
+      let w = text-completes k (scanText k) (λ _ _. refl) scan-value (readScanFrom lent k at) part s (from-completes lent k at (partNumber part) (scan-part part) s isBytes few near) (scan-outcome x (readScanFrom lent k at s) e) h in
+      (w .0, w .1, λ y f. w .2 (scan-outcome y (readScanFrom lent k at (s ++ w .0)) f))

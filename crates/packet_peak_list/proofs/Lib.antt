@@ -1,0 +1,4 @@
+pub mod Lists
+pub mod Skipping
+pub mod OneAnswer
+pub mod LongerBytes

@@ -1,0 +1,5 @@
+pub mod Chunks
+pub mod Answers
+pub mod Size
+pub mod OneAnswer
+pub mod LongerBytes

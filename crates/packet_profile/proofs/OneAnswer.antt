@@ -1,0 +1,18 @@
+-- A profile's answer is known by what it tells: a promise that is stated through `outcomeOf` leaves one answer.
+use mathlib.Core.Path.{_≡_, ap}
+use Prim.Native.Nat.{ℕ}
+use Rattle.refusal.proofs.OneAnswer.{refusal-one}
+use Rattle.packet_profile.specs.Profile.{outcomeOf}
+use Rattle.packet_profile.specs.declared.Profile.{Profile as Record}
+use Rattle.packet_profile.specs.declared.ProfileAnswer.{ProfileAnswer}
+use Rattle.packet_profile.specs.declared.ProfileAnswer.the-variants.{Profile, Refused}
+
+pub profile-answer-one : (a b : ProfileAnswer) → outcomeOf a ≡ outcomeOf b → a ≡ b
+profile-answer-one (Profile x m) (Profile y n) h =
+    let same : _≡_ {A = Record × ℕ} (x, m) (y, n) = cc in
+    let a : x ≡ y = ap (λ (v : Record × ℕ). v .0) same in
+    let b : m ≡ n = ap (λ (v : Record × ℕ). v .1) same in
+    rw (a, b)
+profile-answer-one (Profile x m) (Refused q) h = cc
+profile-answer-one (Refused r) (Profile y n) h = cc
+profile-answer-one (Refused r) (Refused q) h = ap Refused (refusal-one r q h)

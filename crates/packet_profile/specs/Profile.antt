@@ -1,0 +1,118 @@
+-- The profile of a packet (`Profile::read` of scan_data.rs).
+use Prim.Native.Nat.{ℕ, _+_, _*_, _%_}
+use mathlib.Core.Bool.{Bool, true, false, not}
+use mathlib.Core.List.{List}
+use lib.Dec.{eqb}
+use lib.ListN.{length}
+use Rattle.refusal.specs.Outcome.{Outcome, ok}
+use Rattle.refusal.specs.Number.{outcomeOfRefusal}
+use Rattle.parser.specs.Parser.{Parser, done, _>>=_, _>>_, bytes, littleEndian, word, checkCount, repeat, wordAt}
+use Rattle.parser.specs.Walk.{sum}
+use Rattle.parser.specs.Call.{outcome, single}
+use Rattle.packet_profile.specs.declared.Profile.{Profile}
+use Rattle.packet_profile.specs.declared.ProfileAnswer.{ProfileAnswer}
+use Rattle.packet_profile.specs.declared.ProfileAnswer.the-variants as answer
+
+-- a layout whose low byte is not 0 gives each chunk a fudge
+abbrev pub isFudged : ℕ → Bool
+isFudged layout = not (eqb (layout % 256) 0)
+
+-- the first bin, how many values follow, and the fudge: the bits of an f32, or 0, which are those of 0.0, where there is none
+pub record Head : Type 0 where
+  pub firstBin : ℕ
+  pub count : ℕ
+  pub fudge : ℕ
+
+unfoldable pub head : Bool → Parser Head
+head true = do
+  firstBin ← word 4
+  count ← word 4
+  fudge ← word 4
+  done (record { firstBin = firstBin; count = count; fudge = fudge })
+head false = do
+  firstBin ← word 4
+  count ← word 4
+  done (record { firstBin = firstBin; count = count; fudge = 0 })
+
+abbrev pub headSize : Bool → ℕ
+headSize true = 12
+headSize false = 8
+
+-- a chunk: its signal are the bits of f32
+pub record Chunk : Type 0 where
+  pub firstBin : ℕ
+  pub fudge : ℕ
+  pub signal : List ℕ
+
+abbrev pub points : Chunk → ℕ
+points c = length (c .signal)
+
+unfoldable pub values : ℕ → Parser (List ℕ)
+values n = do
+  checkCount n 4
+  repeat n (word 4)
+
+unfoldable pub chunk : Bool → Parser Chunk
+chunk fudged = do
+  h ← head fudged
+  signal ← values (h .count)
+  done (record { firstBin = h .firstBin; fudge = h .fudge; signal = signal })
+
+-- the fudge of the chunk at a place
+abbrev pub fudgeAt : Bool → List ℕ → ℕ → ℕ
+fudgeAt true s at = wordAt s (at + 8) 4
+fudgeAt false s at = 0
+
+-- what stands before the chunks: the bits of two f64, and two counts
+pub record Axis : Type 0 where
+  pub firstValue : ℕ
+  pub step : ℕ
+  pub peakCount : ℕ
+  pub nbins : ℕ
+
+unfoldable pub axis : Parser Axis
+axis = do
+  firstValue ← word 8
+  step ← word 8
+  peakCount ← word 4
+  nbins ← word 4
+  done (record { firstValue = firstValue; step = step; peakCount = peakCount; nbins = nbins })
+
+unfoldable pub chunks : Bool → ℕ → Parser (List Chunk)
+chunks fudged count = do
+  checkCount count 8
+  repeat count (chunk fudged)
+
+unfoldable pub profile : ℕ → Parser (Axis × List Chunk)
+profile layout = do
+  a ← axis
+  cs ← chunks (isFudged layout) (a .peakCount)
+  done (a, cs)
+
+-- how many bytes it takes
+abbrev pub chunkSize : Bool → Chunk → ℕ
+chunkSize fudged c = headSize fudged + points c * 4
+
+abbrev pub profileSize : ℕ → Axis × List Chunk → ℕ
+profileSize layout p = 24 + sum (chunkSize (isFudged layout)) (p .1)
+
+-- the record of a profile that stands at `at`
+unfoldable pub located : ℕ → ℕ → Axis × List Chunk → Profile
+located layout at p =
+    record {
+      «first_value» = p .0 .firstValue;
+      step = p .0 .step;
+      «peak_count» = p .0 .peakCount;
+      nbins = p .0 .nbins;
+      fudged = isFudged layout;
+      «chunks_at» = at + 24;
+      points = sum points (p .1);
+    }
+
+-- what `Profile::read` answers: the profile, and the place after it
+unfoldable pub readProfile : ℕ → ℕ → List ℕ → Outcome (Profile × ℕ)
+readProfile layout at run = outcome (single 4 at (profile layout) (λ p next. ok (located layout at p, next))) run
+
+abbrev pub outcomeOf : ProfileAnswer → Outcome (Profile × ℕ)
+outcomeOf (answer.Profile p next) = ok (p, next)
+outcomeOf (answer.Refused r) = outcomeOfRefusal r

@@ -1,0 +1,4 @@
+pub mod HandOut
+pub mod Found
+pub mod OneAnswer
+pub mod LongerBytes

@@ -1,4 +1,0 @@
-pub mod Lists
-pub mod Skipping
-pub mod Told
-pub mod LongerBytes

@@ -1,2 +1,0 @@
-pub mod Profile
-pub mod Judged

@@ -1,4 +1,0 @@
-pub mod HandOut
-pub mod Found
-pub mod Told
-pub mod LongerBytes

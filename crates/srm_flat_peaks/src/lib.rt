@@ -1,0 +1,102 @@
+// Flat peaks (`read_flat_peaks` of scan_data.rs): a record ends with its peaks, two f32 each, and a flag byte for each of them.
+// How many peaks there are is not stored: data_size - 1 are tried first, then data_size - 2.
+ghost use mathlib.Core.Path.{_≡_};
+ghost use Prim.Native.Nat.{_<_};
+ghost use lib.Ieee.{binary32, ofBits};
+ghost use Rattle.parser.specs.Parser.{parse};
+ghost use Rattle.lists.specs.Left.{LeftPairs};
+ghost use Rattle.peaks.specs.Peaks.{outcomeOfPlace};
+ghost use Rattle.srm_flat_peaks.specs.Flat.{plausible, attempt, attempts, readFlatPeaks, findFlatPeaks};
+ghost use Rattle.srm_flat_peaks.specs.Internal.{judged};
+use float_bits::widened;
+use peaks::PeaksPlace;
+use peaks::hand_out;
+use reader::remaining;
+use reader::saturating_add;
+use reader::saturating_sub;
+use reader::u32_at;
+use refusal::CountAnswer;
+use refusal::Part;
+use refusal::Refusal;
+
+// What an attempt comes to.
+enum Judged {
+    Accepted { place: u64, count: u64 },
+    PassedOver,
+    RanOut,
+}
+
+// Whether an f32 is a plausible m/z: zero, or between 10 and 10,000, both excluded.
+fn plausible(bits: u32) -> bool
+    ensures { λ r. ⌜ r ≡ plausible (ofBits binary32 bits) ⌝ }
+{
+    let mz = widened(bits);
+    mz == 0.0 || (mz > 10.0 && mz < 10000.0)
+}
+
+// An attempt at data_size - subtract peaks, of a record that ends at `end`. Peaks that are there are judged by the first.
+fn judge(run: &[u8], end: u64, cum_end: u64, data_size: u32, subtract: u32) -> Judged
+    ensures { λ r. ⌜ r ≡ judged (parse (attempt end «cum_end» «data_size» subtract) (now (run .entry)) end) ⌝ }
+{
+    if data_size <= subtract {
+        return Judged::PassedOver;
+    }
+    let count = (data_size - subtract) as u64;
+    let section = count * 9;
+    if section > cum_end {
+        return Judged::PassedOver;
+    }
+    let place = saturating_sub(end, section);
+    if count * 8 > remaining(run, place) {
+        return Judged::RanOut;
+    }
+    if plausible(u32_at(run, place)) {
+        return Judged::Accepted { place, count };
+    }
+    Judged::PassedOver
+}
+
+// Both attempts. The second is made where the first was passed over, not where it ran out.
+fn judge_attempts(run: &[u8], end: u64, cum_end: u64, data_size: u32) -> Judged
+    ensures { λ r. ⌜ r ≡ judged (parse (attempts end «cum_end» «data_size») (now (run .entry)) end) ⌝ }
+{
+    match judge(run, end, cum_end, data_size, 1) {
+        Judged::Accepted { place, count } => Judged::Accepted { place, count },
+        Judged::RanOut => Judged::RanOut,
+        Judged::PassedOver => judge(run, end, cum_end, data_size, 2),
+    }
+}
+
+// The peaks of a record, found and not handed out. Each takes 8 bytes.
+pub fn find_flat_peaks(run: &[u8], data: u64, cum_end: u64, data_size: u32) -> PeaksPlace
+    ensures { λ r. ⌜ outcomeOfPlace r ≡ findFlatPeaks «data» «cum_end» «data_size» (now (run .entry)) ⌝ }
+{
+    let end = saturating_add(data, cum_end);
+    if data_size <= 1 {
+        return PeaksPlace::At {
+            place: end,
+            count: 0,
+        };
+    }
+    match judge_attempts(run, end, cum_end, data_size) {
+        Judged::Accepted { place, count } => PeaksPlace::At { place, count },
+        Judged::PassedOver => PeaksPlace::Refused(Refusal::UnrecognizedScanRecord),
+        Judged::RanOut => PeaksPlace::Refused(Refusal::Short(Part::Data)),
+    }
+}
+
+pub fn read_flat_peaks(
+    run: &[u8],
+    data: u64,
+    cum_end: u64,
+    data_size: u32,
+    mz: &mut [u64],
+    abundance: &mut [u32],
+) -> CountAnswer
+    ensures { λ r. ⌜ LeftPairs (λ m a. readFlatPeaks m a «data» «cum_end» «data_size» (now (run .entry))) (now (mz .entry)) (now (abundance .entry)) r (now (mz .exit)) (now (abundance .exit)) ⌝ }
+{
+    match find_flat_peaks(run, data, cum_end, data_size) {
+        PeaksPlace::Refused(r) => CountAnswer::Refused(r),
+        PeaksPlace::At { place, count } => hand_out(run, place, 8, count, false, mz, abundance),
+    }
+}
