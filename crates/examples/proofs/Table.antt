@@ -63,5 +63,5 @@ pub table : (a b : ℕ) (cs : List ℕ)
     × (noiseAt (whole 150) nodes ≡ Values (toBits binary32 threeHalves) (bits32 4))
     × (noiseAt nan nodes ≡ Values (bits32 2) (bits32 5))
     × (tenThousandths mass ≡ ok 5000313)
-unfolding ofInt round ofBits toBits add sub mul div eq lt le sizeForVersion lowest largestMass freqToMz narrow noiseOf past between fraction largestMass scaled tenThousandths
+unfolding ofInt round ofBits toBits add sub mul div eq lt le sizeForVersion lowest largestMass freqToMz narrow noiseOf past between fraction scaled tenThousandths
 table a b cs = (refl, refl, refl, refl, refl, refl, refl, refl, refl, refl, refl, refl, refl)

@@ -6,7 +6,10 @@ ghost use lib.ListN.{length};
 ghost use Rattle.parser.specs.Parser.{bytes};
 ghost use Rattle.noise.specs.Nodes.{nodesOf};
 ghost use Rattle.noise.specs.Line.{noiseAt};
-ghost use Rattle.noise.specs.Labels.{slices, Labels};
+ghost use mathlib.Core.List.{[], _∷_};
+ghost use Rattle.refusal.specs.Number.{outcomeOfCount};
+ghost use Rattle.lists.specs.Left.{LeftLists};
+ghost use Rattle.noise.specs.Labels.{labelPeaks};
 ghost use Rattle.packet_record.specs.Packet.{nodesAt};
 use noise::NoiseAnswer;
 use noise::label_peaks;
@@ -55,8 +58,9 @@ pub fn label_packet_peaks(
     noise: &mut [u32],
     baseline: &mut [u32],
 ) -> CountAnswer
-    ensures { λ r. ⌜ Labels (now (mz .entry)) (nodesOf (nodesAt (now (run .entry)) packet)) (slices (now (flags .entry)) (now (noise .entry)) (now (baseline .entry)))
-        r (slices (now (flags .exit)) (now (noise .exit)) (now (baseline .exit))) ⌝ }
+    ensures { λ r. ⌜ LeftLists (labelPeaks (nodesOf (nodesAt (now (run .entry)) packet)) (now (mz .entry)))
+        (now (flags .entry) ∷ now (noise .entry) ∷ now (baseline .entry) ∷ [])
+        (outcomeOfCount r) (now (flags .exit) ∷ now (noise .exit) ∷ now (baseline .exit) ∷ []) ⌝ }
 {
     let start = start_in(run, packet.nodes_at);
     let end = end_in(run, packet.nodes_at, packet.noise_nodes);
