@@ -15,7 +15,7 @@ use Rattle.refusal.specs.declared.CountAnswer.the-variants.{Count, Refused}
 use Rattle.refusal.specs.declared.Refusal.the-variants.{NoRoom}
 use Rattle.lists.specs.Written.{over, fitting}
 use Rattle.lists.specs.Left.{after, Left, fits, LeftList, overAll, lengths, listsIfFit, LeftLists, firsts, seconds, pairsIfFit, LeftPairs}
-use Rattle.lists.proofs.Cases.{and-true}
+use Rattle.lists.proofs.Cases.{false-not-true, and-true}
 use Rattle.lists.proofs.Laws.{fitting-all}
 
 -- what a call wrote whose answer is known
@@ -70,7 +70,7 @@ Within (n ∷ ns) (c ∷ cs) = (n ≤ c) × Within ns cs
 
 pub fits-true : (ns cs : List ℕ) → fits ns cs ≡ true → Within ns cs
 fits-true [] cs h = tt
-fits-true (n ∷ ns) [] h = let c : _≡_ {A = ℕ} 0 1 = cc in absurd (omega arith)
+fits-true (n ∷ ns) [] h = false-not-true h
 fits-true (n ∷ ns) (c ∷ cs) h =
     let both = and-true (leb n c) (fits ns cs) h in
     (leb-true _ _ (both .0), fits-true ns cs (both .1))

@@ -6,6 +6,7 @@ use mathlib.Core.List.{List, [], _∷_, _++_}
 use lib.ListN.{length, drop, length-append, length-replicate, length-drop}
 use lib.Seq.{drop-append-le}
 use Rattle.refusal.specs.Outcome.{Outcome, ok, refused, ranOut, onOk, andThen}
+use Rattle.refusal.proofs.Outcomes.{ok-not-refused}
 use Rattle.parser.specs.Call.{Call, outcome}
 use Rattle.parser.specs.LongerBytes.{Bytes, Held, PrefixProperty, Names, CompletesOn, Completes}
 use Rattle.parser.proofs.Completion.{zeros, append-bytes, zeros-bytes, drop-bytes}
@@ -22,7 +23,7 @@ pub on-ok-prefix : {A B : Type 0} (g : A → B) (f : List ℕ → Outcome A) →
 on-ok-prefix g f p s t h = ap (onOk g) (p s t (λ r z. h r (ap (onOk g) z)))
 
 pub on-ok-out : {A B : Type 0} (g : A → B) (o : Outcome A) {part : ℕ} → onOk g o ≡ ranOut part → o ≡ ranOut part
-on-ok-out g (ok a) z = let n : _≡_ {A = ℕ} 0 1 = cc in absurd (omega arith)
+on-ok-out g (ok a) z = ok-not-refused z
 on-ok-out g (refused m carries) {part} z = same-refusal m part carries z
 
 pub on-ok-completes : {A B : Type 0} (g : A → B) (f : List ℕ → Outcome A) (part start : ℕ) → Completes part start f → Completes part start (λ s. onOk g (f s))
@@ -96,7 +97,7 @@ module _ {A B : Type 0} (f : List ℕ → Outcome A) (whole : PrefixProperty f) 
               let enough = 2 ^ 62 + more - length (drop n s) in
               let t : List ℕ = zeros enough in
               let held : length (s ++ t) < 2 ^ 63 = simp (length-append, length-replicate) (omega (arith, there s a e, size)) in
-              let same : f (s ++ t) ≡ ok a = whole s t (λ r z. let c : _≡_ {A = ℕ} 0 1 = cc in omega arith) ∙ e in
+              let same : f (s ++ t) ≡ ok a = whole s t (λ r z. ok-not-refused (sym e ∙ z)) ∙ e in
               let not = completes-by-zeros more p (next a) (drop n s) (covers a e) (drop-bytes n s isBytes) (omega (arith, size)) h′ in (
                 t,
                 (append-bytes s t isBytes (zeros-bytes enough), held),

@@ -1,17 +1,16 @@
 -- Demand 3 for a tray's header, whatever the limit of scans is and the refusal's number, which is not 1.
 use mathlib.Core.Path.{_≡_}
-use Prim.Native.Nat.{ℕ, _^_, _-_}
+use Prim.Native.Nat.{ℕ, _^_, _<_}
 use mathlib.Core.Bool.{not}
 use mathlib.Core.List.{[]}
 use native.Mathlib.Omega.{arith}
-use lib.Dec.{T, leb, eqb, lit≤, lit<}
+use lib.Dec.{T, leb, eqb, lit≤}
 use borrow.Author.Tests.{ne-eqb}
 use Rattle.refusal.specs.Outcome.{ok, refused}
 use Rattle.parser.specs.Call.{single}
 use Rattle.parser.specs.LongerBytes.{OnLongerBytes, PrefixProperty, Names, Completes}
-use Rattle.parser.proofs.Completion.{bounded-sized}
-use Rattle.parser.proofs.Calls.{NotTruncated, not-truncated-cond, prefix-property, only-part, single-completes}
-use Rattle.parser.proofs.OnLongerBytes.{plain-longer, one-part}
+use Rattle.parser.proofs.Calls.{NotTruncated, not-truncated-cond, prefix-property}
+use Rattle.parser.proofs.Records.{OnePart, record-part}
 use Rattle.tray_header.specs.Header.{header, judged, readHeader, readTrayHeader, outcomeOf}
 use Rattle.tray_header.specs.declared.TrayHeader.{TrayHeader}
 use Rattle.tray_header.proofs.Answers.{header-sized}
@@ -29,13 +28,15 @@ module _ (limit number : ℕ) where
         let one : T (not (eqb number 1)) = rw (ne-eqb number 1 other) tt in
         not-truncated-cond (leb (h .flat) 1) _ (refused 5 []) (not-truncated-cond (leb (h .scans) limit) (ok h) (refused number []) tt one) tt
 
-    pub header-names : Names (λ q. q ≡ 1) (readHeader limit number)
+    pub header-part : OnePart outcomeOf 1 0 (readHeader limit number)
     unfolding readHeader
-    header-names = only-part 1 0 header (λ h _. judged limit number h) (λ h _. judged-not-truncated h)
+    header-part = record-part 1 0 header (λ h _. judged limit number h) 32 header-sized outcomeOf header-answer-one (lit≤ tt) (λ h _. judged-not-truncated h)
+
+    pub header-names : Names (λ q. q ≡ 1) (readHeader limit number)
+    header-names = header-part .names
 
     pub header-completes : Completes 1 0 (readHeader limit number)
-    unfolding readHeader
-    header-completes = single-completes 1 0 header (λ h _. judged limit number h) (bounded-sized (2 ^ 62) 32 (2 ^ 61) header (lit≤ tt) header-sized) (λ h _. judged-not-truncated h)
+    header-completes = header-part .completes
 
 -- ---- at most 4,096 scans, or refusal 6
 pub six : _≡_ {A = ℕ} 6 1 → ⊥
@@ -47,8 +48,6 @@ tray-header-prefix = header-prefix 4096 6
 pub tray-header-completes : Completes 1 0 readTrayHeader
 tray-header-completes = header-completes 4096 6 six
 
--- the header starts at 0, so nothing is asked of its start
-pub tray-header-longer : OnLongerBytes outcomeOf (λ s r (_ : Unit {0}). outcomeOf r ≡ readTrayHeader s) (λ q. q ≡ 1) (λ _ _. Unit {0})
-tray-header-longer =
-    plain-longer outcomeOf header-answer-one readTrayHeader tray-header-prefix (λ q. q ≡ 1) (λ _ _. Unit {0}) (header-names 4096 6 six)
-    (λ part s isBytes few _. one-part 1 0 readTrayHeader (header-names 4096 6 six) tray-header-completes part s isBytes few (lit< tt))
+-- the terms' sentences, on what `read_tray_header` answers; the header starts at 0
+pub tray-header-longer : OnLongerBytes outcomeOf (λ s r (_ : Unit {0}). outcomeOf r ≡ readTrayHeader s) (λ q. q ≡ 1) (λ _ _. 0 < 2 ^ 62)
+tray-header-longer = header-part 4096 6 six .longer

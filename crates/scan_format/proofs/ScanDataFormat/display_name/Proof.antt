@@ -3,15 +3,6 @@ use borrow.Author.Needs.{needs}
 use Rattle.scan_format.proofs.ScanDataFormat.display_name.Statement.{statement}
 use Rattle.scan_format.proofs.ScanDataFormat.display_name.Tie as tie
 
-write-requires : tie.Need-write-requires
-write-requires c κs = search needs
-
-write-requires-2 : tie.Need-write-requires-2
-write-requires-2 c κs = search needs
-
-write-requires-3 : tie.Need-write-requires-3
-write-requires-3 c κs = search needs
-
 returns : tie.Need-returns
 returns c = rw (c .before .before .before .before .before .enum-told .given .1) (c .before .before .write .ensures)
 
@@ -22,4 +13,4 @@ returns-3 : tie.Need-returns-3
 returns-3 c = rw (c .before .before .before .before .before .enum-told3 .given .1) (c .before .before .write3 .ensures)
 
 pub display-name-spec : {M : Type 1} → statement M
-display-name-spec = tie.close (tie.spec (search needs) (search needs) write-requires (search needs) (search needs) write-requires-2 (search needs) (search needs) write-requires-3 (search needs) returns (search needs) returns-2 (search needs) returns-3)
+display-name-spec = tie.close (tie.spec (search needs) (search needs) (search needs) (search needs) (search needs) (search needs) (search needs) (search needs) (search needs) (search needs) returns (search needs) returns-2 (search needs) returns-3)
