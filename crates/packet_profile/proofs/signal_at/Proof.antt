@@ -1,10 +1,10 @@
--- `pairs::signal_at` meets its contract: each way out is decided by the tests that led there.
+-- `packet_profile::signal_at` meets its contract: each way out is decided by the tests that led there.
 use native.Mathlib.Omega.{arith}
 use denote.Ref.{now}
-use Rattle.pairs.proofs.Signals.{no-head, no-signal, signal-there}
+use Rattle.packet_profile.proofs.Signals.{no-head, no-signal, signal-there}
 use borrow.Author.Needs.{needs}
-use Rattle.pairs.proofs.signal_at.Statement.{statement}
-use Rattle.pairs.proofs.signal_at.Tie as tie
+use Rattle.packet_profile.proofs.signal_at.Statement.{statement}
+use Rattle.packet_profile.proofs.signal_at.Tie as tie
 
 returns : tie.Need-returns
 returns c =

@@ -6,11 +6,10 @@ use mathlib.Core.Bool.{Bool}
 use mathlib.Core.List.{List}
 use Rattle.lists.proofs.Laws.{length-each}
 use Rattle.parser.specs.Parser.{Parsed, short, parsed, bytes, littleEndian, left, parse}
-use Rattle.packet_profile.specs.Profile.{headSize, Chunk, points, chunk}
+use Rattle.packet_profile.specs.Profile.{headSize, Chunk, points, chunk, signalOf}
 use Rattle.packet_profile.proofs.Chunks.{chunkAt, chunk-short-head, chunk-short, chunk-parsed, whole-chunk}
-use Rattle.pairs.specs.Internal.{signalOf}
-use Rattle.pairs.specs.declared.Signal.{Signal as Place}
-use Rattle.pairs.specs.declared.SignalAnswer.the-variants.{Signal, Short}
+use Rattle.packet_profile.specs.declared.Signal.{Signal as Place}
+use Rattle.packet_profile.specs.declared.SignalAnswer.the-variants.{Signal, Short}
 
 pub points-at : (fudged : Bool) (s : List ℕ) (at n : ℕ) → points (chunkAt fudged s at n) ≡ n
 points-at fudged s at n = length-each _ n
