@@ -6,8 +6,8 @@ use mathlib.Core.Bool.{Bool, true, false, cond}
 use mathlib.Core.List.{List, []}
 use lib.Dec.{leb, ltb, lit≤}
 use lib.ListN.{length}
-use Rattle.refusal.specs.Outcome.{Outcome}
-use Rattle.parser.specs.Parser.{done, seek}
+use Rattle.refusal.specs.Outcome.{Outcome, ok}
+use Rattle.parser.specs.Parser.{done, seek, saturatingAdd}
 use Rattle.parser.specs.Call.{outcome, single}
 use Rattle.parser.specs.LongerBytes.{OnLongerBytes, PrefixProperty, Names, Completes}
 use Rattle.parser.proofs.Completion.{Bounded, extent, bounded-sized, bounded-bind, bounded-more, invariant-any}
@@ -18,16 +18,16 @@ use Rattle.refusal.proofs.OneAnswer.{count-one}
 use Rattle.lists.specs.Left.{columns, pairsIfFit, LeftPairs}
 use Rattle.peaks.specs.Peaks.{Peak, outcomeOfPlace}
 use Rattle.peaks.proofs.OneAnswer.{place-answer-one}
-use Rattle.srm_flat_peaks.specs.Flat.{recordEnd, Attempt, accepted, passedOver, verdict, peaksFrom, attempt, orElse, attempts, flatPeaks, ofAccepted, placeAndCount, readFlatPeaks, findFlatPeaks}
-use Rattle.srm_flat_peaks.proofs.Attempts.{counted, counted-sized}
+use Rattle.srm_flat_peaks.specs.Flat.{Attempt, accepted, passedOver, looksValid, peaksFrom, attempt, orElse, attempts, flatPeaks, ofAccepted, readFlatPeaks, findFlatPeaks}
+use Rattle.srm_flat_peaks.proofs.Attempts.{peaksOf, peaks-sized}
 
 module _ (end cumEnd dataSize : ℕ) (near : end < 2 ^ 62) (size : dataSize < 2 ^ 32) where
   -- peaks ask for at most 2^35 bytes
   from-bounded : (place n : ℕ) → n < 2 ^ 32 → Bounded (2 ^ 62) (2 ^ 35) (peaksFrom place n)
-  unfolding peaksFrom counted
+  unfolding peaksFrom
   from-bounded place n few =
-      bounded-bind (λ _. Unit {0}) (verdict place) (2 ^ 62) (2 ^ 35) 0 (λ _ _. lit≤ tt) (λ _ _. tt) (counted n) (invariant-any (counted n))
-      (bounded-sized (2 ^ 62) (n * 8) (2 ^ 35) (counted n) (omega arith) (counted-sized n))
+      bounded-bind (λ _. Unit {0}) (λ ps. done (cond (looksValid ps) (accepted place ps) passedOver)) (2 ^ 62) (2 ^ 35) 0 (λ _ _. lit≤ tt) (λ _ _. tt) (peaksOf n) (invariant-any (peaksOf n))
+      (bounded-sized (2 ^ 62) (n * 8) (2 ^ 35) (peaksOf n) (omega arith) (peaks-sized n))
 
   attempt-bounded : (subtract : ℕ) → Bounded (2 ^ 62) (2 ^ 35) (attempt end cumEnd dataSize subtract)
   unfolding attempt
@@ -77,7 +77,7 @@ accepted-not-truncated f h passedOver = tt
 
 module _ (place cumEnd dataSize : ℕ) where
   end : ℕ
-  end = recordEnd place cumEnd
+  end = saturatingAdd place cumEnd
 
   module _ {A : Type 0} (f : ℕ → List Peak → Outcome A) (notTruncated : (p : ℕ) (peaks : List Peak) → NotTruncated (f p peaks)) where
     -- what is made of accepted peaks
@@ -108,31 +108,31 @@ module _ (place cumEnd dataSize : ℕ) where
 
   pub find-prefix : PrefixProperty (findFlatPeaks place cumEnd dataSize)
   unfolding findFlatPeaks call end
-  find-prefix = call-prefix placeAndCount (λ _ _. tt)
+  find-prefix = call-prefix (λ p peaks. ok (p, length peaks)) (λ _ _. tt)
 
   pub find-names : Names (λ q. q ≡ 4) (findFlatPeaks place cumEnd dataSize)
   unfolding findFlatPeaks call end
-  find-names = call-names placeAndCount (λ _ _. tt)
+  find-names = call-names (λ p peaks. ok (p, length peaks)) (λ _ _. tt)
 
   module _ (size : dataSize < 2 ^ 32) where
-    pub flat-completes : (m a : ℕ) → Completes 4 (recordEnd place cumEnd) (readFlatPeaks m a place cumEnd dataSize)
+    pub flat-completes : (m a : ℕ) → Completes 4 (saturatingAdd place cumEnd) (readFlatPeaks m a place cumEnd dataSize)
     unfolding readFlatPeaks call end
     flat-completes m a = call-completes (λ _ peaks. pairsIfFit m a peaks) (λ _ peaks. not-truncated-pairs m a peaks) size
 
-    pub find-completes : Completes 4 (recordEnd place cumEnd) (findFlatPeaks place cumEnd dataSize)
+    pub find-completes : Completes 4 (saturatingAdd place cumEnd) (findFlatPeaks place cumEnd dataSize)
     unfolding findFlatPeaks call end
-    find-completes = call-completes placeAndCount (λ _ _. tt) size
+    find-completes = call-completes (λ p peaks. ok (p, length peaks)) (λ _ _. tt) size
 
-    pub find-longer : OnLongerBytes outcomeOfPlace (λ s r (_ : Unit {0}). outcomeOfPlace r ≡ findFlatPeaks place cumEnd dataSize s) (λ q. q ≡ 4) (λ _ _. recordEnd place cumEnd < 2 ^ 62)
+    pub find-longer : OnLongerBytes outcomeOfPlace (λ s r (_ : Unit {0}). outcomeOfPlace r ≡ findFlatPeaks place cumEnd dataSize s) (λ q. q ≡ 4) (λ _ _. saturatingAdd place cumEnd < 2 ^ 62)
     find-longer =
-        plain-longer outcomeOfPlace place-answer-one (findFlatPeaks place cumEnd dataSize) find-prefix (λ q. q ≡ 4) (λ _ _. recordEnd place cumEnd < 2 ^ 62) find-names
-        (one-part 4 (recordEnd place cumEnd) (findFlatPeaks place cumEnd dataSize) find-names find-completes)
+        plain-longer outcomeOfPlace place-answer-one (findFlatPeaks place cumEnd dataSize) find-prefix (λ q. q ≡ 4) (λ _ _. saturatingAdd place cumEnd < 2 ^ 62) find-names
+        (one-part 4 (saturatingAdd place cumEnd) (findFlatPeaks place cumEnd dataSize) find-names find-completes)
 
     pub flat-longer : (mz abundance : List ℕ)
         → OnLongerBytes outcomeOfCount (λ s r (ys : List ℕ × List ℕ). LeftPairs (λ m a. readFlatPeaks m a place cumEnd dataSize s) mz abundance r (ys .0) (ys .1)) (λ q. q ≡ 4)
-        (λ _ _. recordEnd place cumEnd < 2 ^ 62)
+        (λ _ _. saturatingAdd place cumEnd < 2 ^ 62)
     flat-longer mz abundance =
         let m = length mz in
         let a = length abundance in
-        left-longer outcomeOfCount count-one (readFlatPeaks m a place cumEnd dataSize) (flat-prefix m a) (λ q. q ≡ 4) (λ _ _. recordEnd place cumEnd < 2 ^ 62) (flat-names m a)
-        (one-part 4 (recordEnd place cumEnd) (readFlatPeaks m a place cumEnd dataSize) (flat-names m a) (flat-completes m a)) length columns (mz, abundance)
+        left-longer outcomeOfCount count-one (readFlatPeaks m a place cumEnd dataSize) (flat-prefix m a) (λ q. q ≡ 4) (λ _ _. saturatingAdd place cumEnd < 2 ^ 62) (flat-names m a)
+        (one-part 4 (saturatingAdd place cumEnd) (readFlatPeaks m a place cumEnd dataSize) (flat-names m a) (flat-completes m a)) length columns (mz, abundance)

@@ -1,11 +1,11 @@
--- `srm_flat_peaks::judge` meets its contract: each way out is decided by the tests that led there.
+-- `srm_flat_peaks::attempt_at` meets its contract: each way out is decided by the tests that led there.
 use mathlib.Core.Path.{sym, _∙_}
 use native.Mathlib.Omega.{arith}
 use denote.Ref.{now}
 use Rattle.srm_flat_peaks.proofs.Attempts.{too-few, too-long, runs-out, plausible-first, implausible-first}
 use borrow.Author.Needs.{needs}
-use Rattle.srm_flat_peaks.proofs.judge.Statement.{statement}
-use Rattle.srm_flat_peaks.proofs.judge.Tie as tie
+use Rattle.srm_flat_peaks.proofs.attempt_at.Statement.{statement}
+use Rattle.srm_flat_peaks.proofs.attempt_at.Tie as tie
 
 returns : tie.Need-returns
 returns c =
@@ -25,14 +25,14 @@ returns-3 c =
 returns-4 : tie.Need-returns-4
 returns-4 c =
     let a = c .before .before .before .before .before .before .before .before .before .args in
-    let says = rw (c .before .before .u32-at .ensures) at (c .before .plausible .ensures) in
+    let says = rw (c .before .before .u32-at .ensures) at (c .before .is-plausible .ensures) in
     plausible-first (a .end) (a .cum-end) (a .data-size) (a .subtract) (now (a .run)) (a .end) (omega arith) (omega arith) _ (c .before .before .before .before .before .saturating-sub .ensures) (omega arith) (sym says ∙ c .if4 .taken)
 
 returns-5 : tie.Need-returns-5
 returns-5 c =
     let a = c .before .before .before .before .before .before .before .before .before .args in
-    let says = rw (c .before .before .u32-at .ensures) at (c .before .plausible .ensures) in
+    let says = rw (c .before .before .u32-at .ensures) at (c .before .is-plausible .ensures) in
     implausible-first (a .end) (a .cum-end) (a .data-size) (a .subtract) (now (a .run)) (a .end) (omega arith) (omega arith) _ (c .before .before .before .before .before .saturating-sub .ensures) (omega arith) (sym says ∙ c .if4 .left)
 
-pub judge-spec : {M : Type 1} → statement M
-judge-spec = tie.close (tie.spec returns (search needs) (search needs) (search needs) returns-2 (search needs) (search needs) (search needs) returns-3 (search needs) (search needs) returns-4 returns-5)
+pub attempt-at-spec : {M : Type 1} → statement M
+attempt-at-spec = tie.close (tie.spec returns (search needs) (search needs) (search needs) returns-2 (search needs) (search needs) (search needs) returns-3 (search needs) (search needs) returns-4 returns-5)
