@@ -77,11 +77,8 @@ profile layout = do
   done (a, cs)
 
 -- how many bytes it takes
-abbrev pub chunkSize : Bool → Chunk → ℕ
-chunkSize fudged c = headSize fudged + points c * 4
-
 abbrev pub profileSize : ℕ → Axis × List Chunk → ℕ
-profileSize layout p = 24 + sum (chunkSize (isFudged layout)) (p .1)
+profileSize layout p = 24 + sum (λ c. headSize (isFudged layout) + points c * 4) (p .1)
 
 -- the record of a profile that stands at `at`
 unfoldable pub located : ℕ → ℕ → Axis × List Chunk → Profile

@@ -2,7 +2,7 @@
 use mathlib.Core.Path.{_≡_, refl, ap, sym}
 use Prim.Native.Nat.{ℕ, _*_, _-_, _≤_, _<_}
 use native.Mathlib.Omega.{arith}
-use mathlib.Core.Bool.{Bool, true, false, cond}
+use mathlib.Core.Bool.{Bool, true, false, cond, _||_}
 use mathlib.Core.List.{List, [], _∷_}
 use lib.Dec.{leb, ltb}
 use lib.ListN.{length}
@@ -29,8 +29,8 @@ module _ (end cumEnd dataSize : ℕ) (s : List ℕ) where
   anywhere subtract p q = go (leb dataSize subtract) (ltb cumEnd ((dataSize - subtract) * 9)) (end - (dataSize - subtract) * 9) (dataSize - subtract)
     where
       go : (a b : Bool) (start n : ℕ)
-          → attemptAnswer (parse (cond a (done passedOver) (cond b (done passedOver) (seek start (peaksFrom start n)))) s p)
-          ≡ attemptAnswer (parse (cond a (done passedOver) (cond b (done passedOver) (seek start (peaksFrom start n)))) s q)
+          → attemptAnswer (parse (cond (a || b) (done passedOver) (seek start (peaksFrom start n))) s p)
+          ≡ attemptAnswer (parse (cond (a || b) (done passedOver) (seek start (peaksFrom start n))) s q)
       go true b start n = refl
       go false true start n = refl
       go false false start n = refl
@@ -107,7 +107,7 @@ module _ (s : List ℕ) where
   unfolding attempt parse
   attempt-stands end cumEnd dataSize subtract at = go (leb dataSize subtract) (ltb cumEnd ((dataSize - subtract) * 9)) (end - (dataSize - subtract) * 9) (dataSize - subtract)
     where
-      go : (a b : Bool) (start n : ℕ) → Stands s (parse (cond a (done passedOver) (cond b (done passedOver) (seek start (peaksFrom start n)))) s at)
+      go : (a b : Bool) (start n : ℕ) → Stands s (parse (cond (a || b) (done passedOver) (seek start (peaksFrom start n))) s at)
       go true b start n = tt
       go false true start n = tt
       go false false start n = from-stands start n

@@ -2,7 +2,7 @@
 use mathlib.Core.Path.{_≡_}
 use Prim.Native.Nat.{ℕ, _*_, _-_, _^_, _≤_, _<_}
 use native.Mathlib.Omega.{arith}
-use mathlib.Core.Bool.{Bool, true, false, cond}
+use mathlib.Core.Bool.{Bool, true, false, cond, _||_}
 use mathlib.Core.List.{List, []}
 use lib.Dec.{leb, ltb, lit≤}
 use lib.ListN.{length}
@@ -34,7 +34,7 @@ module _ (end cumEnd dataSize : ℕ) (near : end < 2 ^ 62) (size : dataSize < 2 
   attempt-bounded subtract = go (leb dataSize subtract) (ltb cumEnd ((dataSize - subtract) * 9)) (end - (dataSize - subtract) * 9) (dataSize - subtract) (omega arith) (omega arith)
     where
       go : (a b : Bool) (start n : ℕ) → start ≤ 2 ^ 62 → n < 2 ^ 32
-          → Bounded (2 ^ 62) (2 ^ 35) (cond a (done passedOver) (cond b (done passedOver) (seek start (peaksFrom start n))))
+          → Bounded (2 ^ 62) (2 ^ 35) (cond (a || b) (done passedOver) (seek start (peaksFrom start n)))
       go true b start n p q = tt
       go false true start n p q = tt
       go false false start n p q = (p, from-bounded start n q)
@@ -44,7 +44,7 @@ module _ (end cumEnd dataSize : ℕ) (near : end < 2 ^ 62) (size : dataSize < 2 
   unfolding attempt
   attempt-extent subtract = go (leb dataSize subtract) (ltb cumEnd ((dataSize - subtract) * 9)) (end - (dataSize - subtract) * 9) (dataSize - subtract)
     where
-      go : (a b : Bool) (start n : ℕ) → extent (cond a (done passedOver) (cond b (done passedOver) (seek start (peaksFrom start n)))) ≤ 0
+      go : (a b : Bool) (start n : ℕ) → extent (cond (a || b) (done passedOver) (seek start (peaksFrom start n))) ≤ 0
       go true b start n = lit≤ tt
       go false true start n = lit≤ tt
       go false false start n = lit≤ tt

@@ -38,9 +38,7 @@ unfoldable pub attempt : ℕ → ℕ → ℕ → ℕ → Parser Attempt
 attempt end cumEnd dataSize subtract =
     let count = dataSize - subtract in
     let start = end - count * 9 in
-    cond (leb dataSize subtract) (done passedOver)
-    (cond (ltb cumEnd (count * 9)) (done passedOver)
-    (seek start (peaksFrom start count)))
+    cond (leb dataSize subtract || ltb cumEnd (count * 9)) (done passedOver) (seek start (peaksFrom start count))
 
 -- the next attempt, where this one was passed over
 abbrev pub orElse : Parser Attempt → Attempt → Parser Attempt

@@ -8,15 +8,16 @@ use lib.ListN.{length}
 use Rattle.refusal.specs.Outcome.{Outcome, ok, refused, andThen}
 use Rattle.lists.specs.Left.{pairsIfFit}
 use Rattle.lists.proofs.Laws.{each-none}
+use Rattle.parser.specs.Parser.{saturatingAdd}
 use Rattle.parser.specs.Call.{outcome, single}
 use Rattle.peaks.specs.Peaks.{Peak, peaksAt}
 use Rattle.peaks.proofs.Columns.{length-peaks}
-use Rattle.srm_scan.specs.Scan.{start, scan, peaks, readScan, findPeaks, windows, readWindows}
+use Rattle.srm_scan.specs.Scan.{scan, peaks, readScan, findPeaks, windows, readWindows}
 use Rattle.srm_scan.specs.Internal.{channels, windowsAt}
 use Rattle.srm_scan.proofs.Tables.{peaks-sized, windows-sized, peaks-are, windows-are}
 use Rattle.srm_scan.proofs.Counting.{by-channels}
 
-module _ (place offset : ℕ) (s : List ℕ) (at : ℕ) (is : at ≡ start place offset) where
+module _ (place offset : ℕ) (s : List ℕ) (at : ℕ) (is : at ≡ saturatingAdd place offset) where
   -- the peaks
   list : ℕ → List Peak
   list n = peaksAt false 12 s (at + 36 + n * 8) n
@@ -34,7 +35,7 @@ module _ (place offset : ℕ) (s : List ℕ) (at : ℕ) (is : at ≡ start place
   found-by = rw (← is) (by-channels 20 peaks peaks-sized s at list (peaks-are s at) list-none _)
 
   then-by : {A : Type 0} (follow : List Peak → Outcome A)
-      → outcome (single 4 (start place offset) (scan peaks) (λ ps _. follow ps)) s ≡ andThen (channels 20 s at) (λ n. follow (list n))
+      → outcome (single 4 (saturatingAdd place offset) (scan peaks) (λ ps _. follow ps)) s ≡ andThen (channels 20 s at) (λ n. follow (list n))
   unfolding list
   then-by follow = rw (← is) (by-channels 20 peaks peaks-sized s at list (peaks-are s at) list-none _)
 
@@ -59,13 +60,13 @@ module _ (place offset : ℕ) (s : List ℕ) (at : ℕ) (is : at ≡ start place
 -- whatever follows of peaks that were found, or of a refusal
 module _ {A : Type 0} (follow : List Peak → Outcome A) (place offset : ℕ) (s : List ℕ) where
   at : ℕ
-  at = start place offset
+  at = saturatingAdd place offset
 
-  pub then-found : (p n : ℕ) → ok (p, n) ≡ findPeaks place offset s → follow (peaksAt false 12 s p n) ≡ outcome (single 4 (start place offset) (scan peaks) (λ ps _. follow ps)) s
+  pub then-found : (p n : ℕ) → ok (p, n) ≡ findPeaks place offset s → follow (peaksAt false 12 s p n) ≡ outcome (single 4 (saturatingAdd place offset) (scan peaks) (λ ps _. follow ps)) s
   unfolding at list
   then-found p n e = go (channels 20 s at) refl
     where
-      go : (o : Outcome ℕ) → channels 20 s at ≡ o → follow (peaksAt false 12 s p n) ≡ outcome (single 4 (start place offset) (scan peaks) (λ ps _. follow ps)) s
+      go : (o : Outcome ℕ) → channels 20 s at ≡ o → follow (peaksAt false 12 s p n) ≡ outcome (single 4 (saturatingAdd place offset) (scan peaks) (λ ps _. follow ps)) s
       go (ok k) h =
           let c = e ∙ sym (found place offset s at refl k (sym h)) in
           let both : _≡_ {A = ℕ × ℕ} (p, n) (at + 36 + k * 8, k) = cc in
@@ -77,11 +78,11 @@ module _ {A : Type 0} (follow : List Peak → Outcome A) (place offset : ℕ) (s
           let z : _≡_ {A = ℕ} 0 1 = cc in
           absurd (omega arith)
 
-  pub then-refused : {number : ℕ} {carries : List ℕ} → refused number carries ≡ findPeaks place offset s → refused number carries ≡ outcome (single 4 (start place offset) (scan peaks) (λ ps _. follow ps)) s
+  pub then-refused : {number : ℕ} {carries : List ℕ} → refused number carries ≡ findPeaks place offset s → refused number carries ≡ outcome (single 4 (saturatingAdd place offset) (scan peaks) (λ ps _. follow ps)) s
   unfolding at
   then-refused {number} {carries} e = go (channels 20 s at) refl
     where
-      go : (o : Outcome ℕ) → channels 20 s at ≡ o → refused number carries ≡ outcome (single 4 (start place offset) (scan peaks) (λ ps _. follow ps)) s
+      go : (o : Outcome ℕ) → channels 20 s at ≡ o → refused number carries ≡ outcome (single 4 (saturatingAdd place offset) (scan peaks) (λ ps _. follow ps)) s
       go (ok k) h =
           let c = e ∙ sym (found place offset s at refl k (sym h)) in
           let z : _≡_ {A = ℕ} 0 1 = cc in

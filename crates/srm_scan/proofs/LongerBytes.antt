@@ -8,7 +8,7 @@ use mathlib.Core.List.{List, []}
 use lib.Dec.{eqb, lit≤}
 use lib.ListN.{length}
 use Rattle.refusal.specs.Outcome.{ok}
-use Rattle.parser.specs.Parser.{Parser, done, skip, _>>_}
+use Rattle.parser.specs.Parser.{Parser, done, skip, _>>_, saturatingAdd}
 use Rattle.parser.specs.Call.{single}
 use Rattle.parser.specs.Internal.{Sized}
 use Rattle.parser.specs.LongerBytes.{OnLongerBytes, PrefixProperty, Names, Completes}
@@ -20,7 +20,7 @@ use Rattle.refusal.proofs.OneAnswer.{count-one}
 use Rattle.lists.specs.Left.{columns, pairsIfFit, LeftPairs}
 use Rattle.peaks.specs.Peaks.{outcomeOfPlace}
 use Rattle.peaks.proofs.OneAnswer.{place-answer-one}
-use Rattle.srm_scan.specs.Scan.{start, afterCount, scan, peaks, readScan, findPeaks, windows, readWindows}
+use Rattle.srm_scan.specs.Scan.{scan, peaks, readScan, findPeaks, windows, readWindows}
 use Rattle.srm_scan.proofs.Tables.{skipped-sized, peaks-sized, windows-sized}
 
 -- a scan asks for at most 4 + 2^37 bytes
@@ -38,10 +38,10 @@ module _ {A : Type 0} (size : ℕ) (few : size ≤ 20) (table : ℕ → Parser (
       bounded-sized (2 ^ 62) (28 + n * size) (4 + 2 ^ 37) (skip 28 >> table n) (omega (arith, table-most n h)) (skipped-sized size table sized n)
 
   scan-bounded : Bounded (2 ^ 62) (2 ^ 61) (scan table)
-  unfolding scan afterCount
+  unfolding scan
   scan-bounded =
       bounded-more (2 ^ 62) (4 + 2 ^ 37) (2 ^ 61) (scan table) (lit≤ tt)
-      (bounded-word (2 ^ 62) 4 (2 ^ 37) (afterCount table) (λ n h. either-extent (eqb n 0) n h) (λ n h. either-bounded (eqb n 0) n h))
+      (bounded-word (2 ^ 62) 4 (2 ^ 37) (λ n. cond (eqb n 0) (done []) (skip 28 >> table n)) (λ n h. either-extent (eqb n 0) n h) (λ n h. either-bounded (eqb n 0) n h))
 
 pub peaks-bounded : Bounded (2 ^ 62) (2 ^ 61) (scan peaks)
 peaks-bounded = scan-bounded 20 (lit≤ tt) peaks peaks-sized
@@ -52,59 +52,59 @@ windows-bounded = scan-bounded 8 (lit≤ tt) windows windows-sized
 module _ (place offset : ℕ) where
   pub find-prefix : PrefixProperty (findPeaks place offset)
   unfolding findPeaks
-  find-prefix = prefix-property (single 4 (start place offset) (scan peaks) (λ ps _. ok (start place offset + 36 + length ps * 8, length ps)))
+  find-prefix = prefix-property (single 4 (saturatingAdd place offset) (scan peaks) (λ ps _. ok (saturatingAdd place offset + 36 + length ps * 8, length ps)))
 
   pub find-names : Names (λ q. q ≡ 4) (findPeaks place offset)
   unfolding findPeaks
-  find-names = only-part 4 (start place offset) (scan peaks) _ (λ _ _. tt)
+  find-names = only-part 4 (saturatingAdd place offset) (scan peaks) _ (λ _ _. tt)
 
-  pub find-completes : Completes 4 (start place offset) (findPeaks place offset)
+  pub find-completes : Completes 4 (saturatingAdd place offset) (findPeaks place offset)
   unfolding findPeaks
   find-completes =
-      single-completes 4 (start place offset) (scan peaks) (λ ps _. ok (start place offset + 36 + length ps * 8, length ps)) peaks-bounded (λ _ _. tt)
+      single-completes 4 (saturatingAdd place offset) (scan peaks) (λ ps _. ok (saturatingAdd place offset + 36 + length ps * 8, length ps)) peaks-bounded (λ _ _. tt)
 
-  pub find-longer : OnLongerBytes outcomeOfPlace (λ s r (_ : Unit {0}). outcomeOfPlace r ≡ findPeaks place offset s) (λ q. q ≡ 4) (λ _ _. start place offset < 2 ^ 62)
+  pub find-longer : OnLongerBytes outcomeOfPlace (λ s r (_ : Unit {0}). outcomeOfPlace r ≡ findPeaks place offset s) (λ q. q ≡ 4) (λ _ _. saturatingAdd place offset < 2 ^ 62)
   find-longer =
-      plain-longer outcomeOfPlace place-answer-one (findPeaks place offset) find-prefix (λ q. q ≡ 4) (λ _ _. start place offset < 2 ^ 62) find-names
-      (one-part 4 (start place offset) (findPeaks place offset) find-names find-completes)
+      plain-longer outcomeOfPlace place-answer-one (findPeaks place offset) find-prefix (λ q. q ≡ 4) (λ _ _. saturatingAdd place offset < 2 ^ 62) find-names
+      (one-part 4 (saturatingAdd place offset) (findPeaks place offset) find-names find-completes)
 
   module _ (m a : ℕ) where
     pub srm-prefix : PrefixProperty (readScan m a place offset)
     unfolding readScan
-    srm-prefix = prefix-property (single 4 (start place offset) (scan peaks) (λ ps _. pairsIfFit m a ps))
+    srm-prefix = prefix-property (single 4 (saturatingAdd place offset) (scan peaks) (λ ps _. pairsIfFit m a ps))
 
     pub srm-names : Names (λ q. q ≡ 4) (readScan m a place offset)
     unfolding readScan
-    srm-names = only-part 4 (start place offset) (scan peaks) _ (λ ps _. not-truncated-pairs m a ps)
+    srm-names = only-part 4 (saturatingAdd place offset) (scan peaks) _ (λ ps _. not-truncated-pairs m a ps)
 
-    pub srm-completes : Completes 4 (start place offset) (readScan m a place offset)
+    pub srm-completes : Completes 4 (saturatingAdd place offset) (readScan m a place offset)
     unfolding readScan
-    srm-completes = single-completes 4 (start place offset) (scan peaks) (λ ps _. pairsIfFit m a ps) peaks-bounded (λ ps _. not-truncated-pairs m a ps)
+    srm-completes = single-completes 4 (saturatingAdd place offset) (scan peaks) (λ ps _. pairsIfFit m a ps) peaks-bounded (λ ps _. not-truncated-pairs m a ps)
 
     pub windows-prefix : PrefixProperty (readWindows m a place offset)
     unfolding readWindows
-    windows-prefix = prefix-property (single 4 (start place offset) (scan windows) (λ ws _. pairsIfFit m a ws))
+    windows-prefix = prefix-property (single 4 (saturatingAdd place offset) (scan windows) (λ ws _. pairsIfFit m a ws))
 
     pub windows-names : Names (λ q. q ≡ 4) (readWindows m a place offset)
     unfolding readWindows
-    windows-names = only-part 4 (start place offset) (scan windows) _ (λ ws _. not-truncated-pairs m a ws)
+    windows-names = only-part 4 (saturatingAdd place offset) (scan windows) _ (λ ws _. not-truncated-pairs m a ws)
 
-    pub windows-completes : Completes 4 (start place offset) (readWindows m a place offset)
+    pub windows-completes : Completes 4 (saturatingAdd place offset) (readWindows m a place offset)
     unfolding readWindows
-    windows-completes = single-completes 4 (start place offset) (scan windows) (λ ws _. pairsIfFit m a ws) windows-bounded (λ ws _. not-truncated-pairs m a ws)
+    windows-completes = single-completes 4 (saturatingAdd place offset) (scan windows) (λ ws _. pairsIfFit m a ws) windows-bounded (λ ws _. not-truncated-pairs m a ws)
 
   pub srm-longer : (mz abundance : List ℕ)
-      → OnLongerBytes outcomeOfCount (λ s r (ys : List ℕ × List ℕ). LeftPairs (λ m a. readScan m a place offset s) mz abundance r (ys .0) (ys .1)) (λ q. q ≡ 4) (λ _ _. start place offset < 2 ^ 62)
+      → OnLongerBytes outcomeOfCount (λ s r (ys : List ℕ × List ℕ). LeftPairs (λ m a. readScan m a place offset s) mz abundance r (ys .0) (ys .1)) (λ q. q ≡ 4) (λ _ _. saturatingAdd place offset < 2 ^ 62)
   srm-longer mz abundance =
       let m = length mz in
       let a = length abundance in
-      left-longer outcomeOfCount count-one (readScan m a place offset) (srm-prefix m a) (λ q. q ≡ 4) (λ _ _. start place offset < 2 ^ 62) (srm-names m a)
-      (one-part 4 (start place offset) (readScan m a place offset) (srm-names m a) (srm-completes m a)) length columns (mz, abundance)
+      left-longer outcomeOfCount count-one (readScan m a place offset) (srm-prefix m a) (λ q. q ≡ 4) (λ _ _. saturatingAdd place offset < 2 ^ 62) (srm-names m a)
+      (one-part 4 (saturatingAdd place offset) (readScan m a place offset) (srm-names m a) (srm-completes m a)) length columns (mz, abundance)
 
   pub windows-longer : (low high : List ℕ)
-      → OnLongerBytes outcomeOfCount (λ s r (ys : List ℕ × List ℕ). LeftPairs (λ l h. readWindows l h place offset s) low high r (ys .0) (ys .1)) (λ q. q ≡ 4) (λ _ _. start place offset < 2 ^ 62)
+      → OnLongerBytes outcomeOfCount (λ s r (ys : List ℕ × List ℕ). LeftPairs (λ l h. readWindows l h place offset s) low high r (ys .0) (ys .1)) (λ q. q ≡ 4) (λ _ _. saturatingAdd place offset < 2 ^ 62)
   windows-longer low high =
       let l = length low in
       let h = length high in
-      left-longer outcomeOfCount count-one (readWindows l h place offset) (windows-prefix l h) (λ q. q ≡ 4) (λ _ _. start place offset < 2 ^ 62) (windows-names l h)
-      (one-part 4 (start place offset) (readWindows l h place offset) (windows-names l h) (windows-completes l h)) length columns (low, high)
+      left-longer outcomeOfCount count-one (readWindows l h place offset) (windows-prefix l h) (λ q. q ≡ 4) (λ _ _. saturatingAdd place offset < 2 ^ 62) (windows-names l h)
+      (one-part 4 (saturatingAdd place offset) (readWindows l h place offset) (windows-names l h) (windows-completes l h)) length columns (low, high)

@@ -19,17 +19,13 @@ use Rattle.srm_transition.specs.declared.EventTransitionAnswer.{EventTra
 use Rattle.srm_transition.specs.declared.EventTransitionAnswer.the-variants.{None as NoEvent, Found as FoundEvent}
 use Rattle.float_bits.specs.Numbers.{ratio, whole}
 
--- how far apart two numbers are
-abbrev pub distance : Float → Float → Float
-distance x y = absolute (sub binary64 x y)
-
 -- a finite number from low to high, both included
 abbrev pub inRange : Float → Float → Float → Bool
 inRange low high x = finite x && le low x && le x high
 
 -- not farther than 0.002, which holds of 0.002 and, as a NaN compares with nothing, of a NaN
 abbrev pub notFar : Float → Float → Bool
-notFar x target = not (lt (ratio 2 1000) (distance x target))
+notFar x target = not (lt (ratio 2 1000) (absolute (sub binary64 x target)))
 
 -- the Q3 centre at j is not far; Q1 stands 8 bytes before it, the width 8 and the collision energy 24 bytes after it
 unfoldable pub v63Test : Float → List ℕ → ℕ → Bool
@@ -52,7 +48,7 @@ narrowWindow lo hi = lt lo hi && lt (sub binary64 hi lo) (ratio 1 10)
 
 -- nearer than 0.002, which neither 0.002 nor a NaN is
 abbrev pub isNear : Float → Float → Bool
-isNear x target = lt (distance x target) (ratio 2 1000)
+isNear x target = lt (absolute (sub binary64 x target)) (ratio 2 1000)
 
 -- between low and high, both excluded
 abbrev pub isBetween : Float → Float → Float → Bool
