@@ -8,10 +8,10 @@ use lib.Dec.{eqb}
 use lib.Ieee.{Float, nan, binary32, binary64, add, mul, eq, ofBits, ofInt}
 use Rattle.calibration.specs.Convert.{coefficient, series}
 use Rattle.calibration.specs.declared.Bins.{Bins}
-use Rattle.calibration.specs.declared.Axis.{Axis}
+use Rattle.calibration.specs.declared.ChunkBins.{ChunkBins}
 use Rattle.calibration.specs.declared.Layout.{Layout}
 use Rattle.calibration.specs.declared.Layout.the-variants.{None, Frequency, SquaredFrequency, Unknown}
-use Rattle.float_bits.specs.Numbers.{zeroF}
+use Rattle.float_bits.specs.Numbers.{zeroF, whole}
 
 -- the cases of `byLength`, with the coefficients that count
 abbrev pub layoutByLength : ℕ → List ℕ → Layout
@@ -35,17 +35,17 @@ abbrev pub mzBy : Layout → Float → Float
 mzBy layout freq = cond (eq freq zeroF) zeroF (converted layout freq)
 
 -- the numbers that a chunk's bits stand for
-abbrev pub axisOf : Bins → ℕ → ℕ → Axis
-axisOf bins firstBin fudge =
+abbrev pub chunkBins : Bins → ℕ → ℕ → ChunkBins
+chunkBins bins firstBin fudge =
     record {
       «first_value» = ofBits binary64 (bins .«first_value»);
       step = ofBits binary64 (bins .step);
-      «first_bin» = ofInt binary64 (pos firstBin);
+      «first_bin» = whole firstBin;
       fudge = ofBits binary32 fudge;
     }
 
 -- `mzOf` from what was worked out
-abbrev pub mzOn : Axis → Layout → ℕ → Float
-mzOn axis layout i =
-    let binGlobal = add binary64 (axis .«first_bin») (ofInt binary64 (pos i)) in
-    add binary64 (mzBy layout (add binary64 (axis .«first_value») (mul binary64 binGlobal (axis .step)))) (axis .fudge)
+abbrev pub mzOn : ChunkBins → Layout → ℕ → Float
+mzOn bins layout i =
+    let binGlobal = add binary64 (bins .«first_bin») (whole i) in
+    add binary64 (mzBy layout (add binary64 (bins .«first_value») (mul binary64 binGlobal (bins .step)))) (bins .fudge)

@@ -1,12 +1,13 @@
 // From a profile's bins to pairs of m/z and intensity (`freq_to_mz`, and the inner loop of `Profile::to_mz_intensity`, of
 // scan_data.rs).
 ghost use mathlib.Core.Path.{_≡_};
-ghost use Prim.Native.Nat.{_≤_};
+ghost use Prim.Native.Nat.{_+_, _*_, _≤_};
 ghost use lib.ListN.{length};
 ghost use Rattle.lists.specs.Left.{pairsIfFit, LeftPairs};
 ghost use Rattle.lists.specs.Written.{each, over};
-ghost use Rattle.calibration.specs.Convert.{series, freqToMz, intensityAt, chunkPairs};
-ghost use Rattle.calibration.specs.Internal.{layoutOf, mzBy, axisOf, mzOn};
+ghost use Rattle.parser.specs.Parser.{f32At};
+ghost use Rattle.calibration.specs.Convert.{series, freqToMz, chunkPairs};
+ghost use Rattle.calibration.specs.Internal.{layoutOf, mzBy, chunkBins, mzOn};
 use float_bits::f64_of_bits;
 use float_bits::widened;
 use lists::holds;
@@ -32,8 +33,8 @@ enum Layout {
     Unknown,
 }
 
-// What else a chunk's bins have in common.
-struct Axis {
+// What else a chunk's bins have in common, as numbers.
+struct ChunkBins {
     first_value: f64,
     step: f64,
     first_bin: f64,
@@ -87,11 +88,11 @@ pub fn freq_to_mz(freq: f64, coefficients: &[u64]) -> f64
     mz_by(layout_of(coefficients), freq)
 }
 
-fn axis_of(bins: Bins, first_bin: u32, fudge: u32) -> Axis
-    ensures { λ r. ⌜ r ≡ axisOf bins «first_bin» fudge ⌝ }
+fn chunk_bins(bins: Bins, first_bin: u32, fudge: u32) -> ChunkBins
+    ensures { λ r. ⌜ r ≡ chunkBins bins «first_bin» fudge ⌝ }
 {
     let bin = first_bin as f64;
-    Axis {
+    ChunkBins {
         first_value: f64_of_bits(bins.first_value),
         step: f64_of_bits(bins.step),
         first_bin: bin,
@@ -100,12 +101,12 @@ fn axis_of(bins: Bins, first_bin: u32, fudge: u32) -> Axis
 }
 
 // The m/z of a chunk's i-th bin. The fudge corrects the m/z, not the frequency.
-fn bin_to_mz(axis: Axis, layout: Layout, i: u64) -> f64
-    ensures { λ r. ⌜ r ≡ mzOn axis layout i ⌝ }
+fn bin_to_mz(bins: ChunkBins, layout: Layout, i: u64) -> f64
+    ensures { λ r. ⌜ r ≡ mzOn bins layout i ⌝ }
 {
-    let fudge = axis.fudge;
+    let fudge = bins.fudge;
     let index = std::num::nearest_u64_to_f64(i);
-    let freq = axis.first_value + (axis.first_bin + index) * axis.step;
+    let freq = bins.first_value + (bins.first_bin + index) * bins.step;
     mz_by(layout, freq) + fudge
 }
 
@@ -114,21 +115,21 @@ fn write_pairs(
     run: &[u8],
     at: u64,
     n: u64,
-    axis: Axis,
+    bins: ChunkBins,
     layout: Layout,
     mz: &mut [f64],
     intensity: &mut [f64],
 )
     requires { ⌜ n ≤ length (now mz) ⌝ }
     requires { ⌜ n ≤ length (now intensity) ⌝ }
-    ensures { λ _. ⌜ now (mz .exit) ≡ over (each (mzOn axis layout) n) (now (mz .entry)) ⌝ }
-    ensures { λ _. ⌜ now (intensity .exit) ≡ over (each (intensityAt (now (run .entry)) at) n) (now (intensity .entry)) ⌝ }
+    ensures { λ _. ⌜ now (mz .exit) ≡ over (each (mzOn bins layout) n) (now (mz .entry)) ⌝ }
+    ensures { λ _. ⌜ now (intensity .exit) ≡ over (each (λ k. f32At (now (run .entry)) (at + k * 4)) n) (now (intensity .entry)) ⌝ }
 {
     let count = n as usize;
     let mut place = at;
     let mut i: usize = 0;
     while i < count {
-        mz[i] = bin_to_mz(axis, layout, i as u64);
+        mz[i] = bin_to_mz(bins, layout, i as u64);
         intensity[i] = widened(u32_at(run, place));
         place = saturating_add(place, 4);
         i = i + 1;
@@ -155,7 +156,7 @@ pub fn write_chunk(
             run,
             at,
             n,
-            axis_of(bins, first_bin, fudge),
+            chunk_bins(bins, first_bin, fudge),
             layout_of(coefficients),
             mz,
             intensity,

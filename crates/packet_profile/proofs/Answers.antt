@@ -8,18 +8,19 @@ use mathlib.Core.List.{List}
 use lib.Dec.{leb}
 use borrow.Author.Tests.{le-leb, lt-leb}
 use Rattle.refusal.specs.Outcome.{ok, refused, ranOut}
-use Rattle.parser.specs.Parser.{Parser, Parsed, short, parsed, done, bytes, littleEndian, left, within, parse, repeat, _>>=_}
+use Rattle.parser.specs.Parser.{Parser, Parsed, short, parsed, done, bytes, littleEndian, left, within, parse, repeat, counted, _>>=_}
 use Rattle.parser.specs.Walk.{sum}
 use Rattle.parser.specs.Call.{outcome}
 use Rattle.parser.specs.Internal.{Sized, value}
 use Rattle.parser.proofs.Prefix.{within-parsed, parse-bind, parts}
 use Rattle.parser.proofs.Fixed.{parse-sized, parse-stage}
 use Rattle.parser.proofs.Answered.{found, RanOut, ran-out}
-use Rattle.packet_profile.specs.Profile.{isFudged, Chunk, points, chunk, Axis, axis, chunks, profile, located, readProfile}
-use Rattle.packet_profile.specs.Internal.{judged}
+use Rattle.packet_profile.specs.Profile.{isFudged, Chunk, points, chunk, Axis, axis, profile, located, readProfile}
+use Rattle.packet_profile.specs.Internal.{chunksAnswer}
+use Rattle.packet_profile.proofs.Chunks.{chunks}
 use Rattle.packet_profile.specs.declared.Profile.{Profile}
 use Rattle.packet_profile.specs.declared.ChunkList.{ChunkList}
-use Rattle.packet_profile.specs.declared.Judged.the-variants as judge
+use Rattle.packet_profile.specs.declared.ChunksAnswer.the-variants as answer
 
 pub axis-sized : Sized 24 axis
 unfolding axis
@@ -35,19 +36,19 @@ paired a cs = done (a, cs)
 unfoldable pub rest : ℕ → Axis → Parser (Axis × List Chunk)
 rest layout a = chunks (isFudged layout) (a .peakCount) >>= paired a
 
--- what a judgement of chunks says of them
+-- what an answer on chunks says of them
 pub record Listed (o : Parsed (List Chunk)) (w next : ℕ) : Type 0 where
   pub list : List Chunk
   pub there : o ≡ parsed list next
   pub holds : sum points list ≡ w
 
-listed : (o : Parsed (List Chunk)) (w next : ℕ) → judge.Chunks (record { points = w; next = next }) ≡ judged o → Listed o w next
+listed : (o : Parsed (List Chunk)) (w next : ℕ) → answer.Chunks (record { points = w; next = next }) ≡ chunksAnswer o → Listed o w next
 listed short w next h = let c : _≡_ {A = ℕ} 0 1 = cc in absurd (omega arith)
 listed (parsed cs end) w next h =
     let same : _≡_ {A = ChunkList} (record { points = w; next = next }) (record { points = sum points cs; next = end }) = cc in
     record { list = cs; there = ap (parsed cs) (sym (ap (λ (c : ChunkList). c .next) same)); holds = sym (ap (λ (c : ChunkList). c .points) same) }
 
-unlisted : (o : Parsed (List Chunk)) → judge.Short ≡ judged o → o ≡ short
+unlisted : (o : Parsed (List Chunk)) → answer.Short ≡ chunksAnswer o → o ≡ short
 unlisted short h = refl
 unlisted (parsed cs end) h = let c : _≡_ {A = ℕ} 0 1 = cc in absurd (omega arith)
 
@@ -69,21 +70,21 @@ module _ (layout : ℕ) (s : List ℕ) (at : ℕ) where
     to-list = to-chunks count e ∙ rw (le-leb _ _ t)
 
     pub short-count : left s (at + 24) < count * 8 → ranOut 4 ≡ readProfile layout at s
-    unfolding readProfile outcome rest chunks parse
+    unfolding readProfile outcome rest counted parse
     short-count u = rw (to-list, parse-bind (chunks (isFudged layout) count) (paired (axisAt s at count)) s (at + 24), lt-leb _ _ u)
 
     module _ (u : count * 8 ≤ left s (at + 24)) where
-      counted : parse (chunks (isFudged layout) count) s (at + 24) ≡ list
-      unfolding chunks parse list
-      counted = rw (le-leb _ _ u)
+      is-list : parse (chunks (isFudged layout) count) s (at + 24) ≡ list
+      unfolding counted parse list
+      is-list = rw (le-leb _ _ u)
 
-      pub short-chunks : (fudged : Bool) → fudged ≡ isFudged layout → judge.Short ≡ judged (parse (repeat count (chunk fudged)) s (at + 24)) → ranOut 4 ≡ readProfile layout at s
+      pub short-chunks : (fudged : Bool) → fudged ≡ isFudged layout → answer.Short ≡ chunksAnswer (parse (repeat count (chunk fudged)) s (at + 24)) → ranOut 4 ≡ readProfile layout at s
       unfolding readProfile outcome rest list
       short-chunks fudged f i =
           let j = rw f at i in
-          rw (to-list, parse-bind (chunks (isFudged layout) count) (paired (axisAt s at count)) s (at + 24), counted, unlisted list j)
+          rw (to-list, parse-bind (chunks (isFudged layout) count) (paired (axisAt s at count)) s (at + 24), is-list, unlisted list j)
 
-      pub whole-profile : (fudged : Bool) → fudged ≡ isFudged layout → (c : ChunkList) → judge.Chunks c ≡ judged (parse (repeat count (chunk fudged)) s (at + 24))
+      pub whole-profile : (fudged : Bool) → fudged ≡ isFudged layout → (c : ChunkList) → answer.Chunks c ≡ chunksAnswer (parse (repeat count (chunk fudged)) s (at + 24))
           → ok (
             record {
               «first_value» = littleEndian (bytes s at 8);
@@ -101,7 +102,7 @@ module _ (layout : ℕ) (s : List ℕ) (at : ℕ) where
       whole-profile fudged f c i =
           let j = rw f at i in
           let l = listed list (c .points) (c .next) j in
-          rw (f, to-list, parse-bind (chunks (isFudged layout) count) (paired (axisAt s at count)) s (at + 24), counted, l .there, l .holds)
+          rw (f, to-list, parse-bind (chunks (isFudged layout) count) (paired (axisAt s at count)) s (at + 24), is-list, l .there, l .holds)
 
 -- the chunks of a profile that was parsed, by its record
 chunked-of : (layout : ℕ) (s : List ℕ) (at : ℕ) (p : Axis × List Chunk) (a : Axis) (cs : List Chunk) (place next end : ℕ)
@@ -112,7 +113,7 @@ chunked-of layout s at p a cs place next end b q n h = rw (b, ← q, ← n) h
 
 pub profile-chunks : (layout : ℕ) (s : List ℕ) (at : ℕ) {p : Axis × List Chunk} {next : ℕ} → parse (profile layout) s at ≡ parsed p next
     → let v = located layout at p in parse (repeat (v .«peak_count») (chunk (v .fudged))) s (v .«chunks_at») ≡ parsed (p .1) next
-unfolding profile rest paired chunks parse
+unfolding profile rest paired counted parse
 profile-chunks layout s at {p} {next} h =
     let a = parts axis (rest layout) s at h in
     let c = parts (chunks (isFudged layout) (a .first .peakCount)) (paired (a .first)) s (a .middle) (a .there) in

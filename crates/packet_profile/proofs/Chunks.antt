@@ -9,15 +9,34 @@ use lib.Dec.{leb}
 use borrow.Author.Tests.{le-leb, lt-leb, leb-true}
 use Rattle.lists.specs.Written.{each}
 use Rattle.lists.proofs.Laws.{each-same, length-each}
-use Rattle.parser.specs.Parser.{Parser, Parsed, short, parsed, done, bytes, littleEndian, left, within, parse, word, repeat, _>>=_}
+use Rattle.parser.specs.Parser.{Parser, Parsed, short, parsed, done, bytes, littleEndian, left, within, parse, word, repeat, counted, _>>=_}
 use Rattle.parser.specs.Internal.{Sized, value}
 use Rattle.parser.proofs.Prefix.{within-parsed}
 use Rattle.parser.proofs.Fixed.{parse-stage, sized-word, sized-counted, value-each}
 use Rattle.parser.specs.Walk.{sum}
-use Rattle.parser.proofs.Walk.{total, WalkInvariant, walk-more, walk-short, walk-all}
-use Rattle.packet_profile.specs.Profile.{Head, head, headSize, Chunk, points, values, chunk, fudgeAt}
-use Rattle.packet_profile.specs.Internal.{judged}
-use Rattle.packet_profile.specs.declared.Judged.the-variants as judge
+use Rattle.parser.proofs.Walk.{total, WalkInvariant, walk-short, walk-all}
+use Rattle.packet_profile.specs.Profile.{headSize, Chunk, points, fudge, chunk, fudgeAt}
+use Rattle.packet_profile.specs.Internal.{chunksAnswer}
+use Rattle.packet_profile.specs.declared.ChunksAnswer.the-variants as answer
+
+-- a chunk in two stages: what has one size, and its values
+pub record Head : Type 0 where
+  pub firstBin : ℕ
+  pub count : ℕ
+  pub value : ℕ
+
+unfoldable pub head : Bool → Parser Head
+head fudged = do
+  firstBin ← word 4
+  count ← word 4
+  value ← fudge fudged
+  done (record { firstBin = firstBin; count = count; value = value })
+
+abbrev pub values : ℕ → Parser (List ℕ)
+values n = counted n 4 (word 4)
+
+abbrev pub chunks : Bool → ℕ → Parser (List Chunk)
+chunks fudged n = counted n 8 (chunk fudged)
 
 pub head-sized : (fudged : Bool) → Sized (headSize fudged) (head fudged)
 unfolding head
@@ -25,7 +44,7 @@ head-sized true = λ _ _ _. tt
 head-sized false = λ _ _. tt
 
 pub values-sized : (n : ℕ) → Sized (n * 4) (values n)
-unfolding values
+unfolding counted
 values-sized n = sized-counted 4 (word 4) (sized-word 4) n
 
 -- the chunk at a place, which has n values
@@ -35,19 +54,24 @@ chunkAt fudged s at n =
 
 -- what is made of a head, and of its values
 unfoldable pub whole : Head → List ℕ → Parser Chunk
-whole h signal = done (record { firstBin = h .firstBin; fudge = h .fudge; signal = signal })
+whole h signal = done (record { firstBin = h .firstBin; fudge = h .value; signal = signal })
 
 unfoldable pub rest : Head → Parser Chunk
 rest h = values (h .count) >>= whole h
 
+pub staged : (fudged : Bool) → chunk fudged ≡ (head fudged >>= rest)
+unfolding chunk head rest whole
+staged true = refl
+staged false = refl
+
 head-value : (fudged : Bool) (s : List ℕ) (at : ℕ)
-    → value (head fudged) s at 0 ≡ record { firstBin = littleEndian (bytes s at 4); count = littleEndian (bytes s (at + 4) 4); fudge = fudgeAt fudged s at }
+    → value (head fudged) s at 0 ≡ record { firstBin = littleEndian (bytes s at 4); count = littleEndian (bytes s (at + 4) 4); value = fudgeAt fudged s at }
 unfolding head
 head-value true s at = rw (add-zero at)
 head-value false s at = rw (add-zero at)
 
 values-value : (n : ℕ) (s : List ℕ) (at : ℕ) → value (values n) s at 0 ≡ each (λ i. littleEndian (bytes s (at + i * 4) 4)) n
-unfolding values
+unfolding counted
 values-value n s at =
     value-each 4 (word 4) (sized-word 4) n s at 0
     ∙ each-same _ _ n (λ i. ap (λ (k : ℕ). littleEndian (bytes s (at + k) 4)) (zero-add (i * 4)))
@@ -55,10 +79,10 @@ values-value n s at =
 module _ (fudged : Bool) (s : List ℕ) (at : ℕ) where
   parse-chunk : (n : ℕ) → n ≡ littleEndian (bytes s (at + 4) 4) → parse (chunk fudged) s at
       ≡ within (leb (headSize fudged) (left s at)) (within (leb (n * 4) (left s (at + headSize fudged))) (parsed (chunkAt fudged s at n) (at + headSize fudged + n * 4)))
-  unfolding chunk rest whole parse
+  unfolding rest whole parse
   parse-chunk n e =
-      let h : Head = record { firstBin = littleEndian (bytes s at 4); count = n; fudge = fudgeAt fudged s at } in
-      parse-stage (headSize fudged) (head fudged) rest (head-sized fudged) s at
+      let h : Head = record { firstBin = littleEndian (bytes s at 4); count = n; value = fudgeAt fudged s at } in
+      ap (λ (q : Parser Chunk). parse q s at) (staged fudged) ∙ parse-stage (headSize fudged) (head fudged) rest (head-sized fudged) s at
       ∙ rw (head-value fudged s at, ← e, parse-stage (n * 4) (values n) (whole h) (values-sized n) s (at + headSize fudged), values-value n s (at + headSize fudged))
 
   pub chunk-short-head : left s at < headSize fudged → parse (chunk fudged) s at ≡ short
@@ -85,28 +109,22 @@ module _ (fudged : Bool) (s : List ℕ) (at : ℕ) where
         let inner = within-parsed (leb (n * 4) (left s (at + headSize fudged))) _ (outer .1) in
         record { head-there = leb-true _ _ (outer .0); values-there = leb-true _ _ (inner .0); is = cc (inner .1); end = cc (inner .1) }
 
--- turns of the judging loop
-module _ (fudged : Bool) (count : ℕ) (s : List ℕ) (start i at w : ℕ) (more : i < count) (before : WalkInvariant points (chunk fudged) s start count i at w) where
-  pub judge-short : parse (chunk fudged) s at ≡ short → judged (parse (repeat count (chunk fudged)) s start) ≡ judged short
-  judge-short h = no-total (parse (repeat count (chunk fudged)) s start) (walk-short points (chunk fudged) s start count i at w more before h)
-    where
-      no-total : (o : Parsed (List Chunk)) → total points o ≡ short → judged o ≡ judged short
-      no-total short e = refl
-      no-total (parsed cs next) e = let c : _≡_ {A = ℕ} 0 1 = cc in absurd (omega arith)
-
-  pub judge-more : (n : ℕ) → n ≡ littleEndian (bytes s (at + 4) 4) → headSize fudged ≤ left s at → n * 4 ≤ left s (at + headSize fudged)
-      → WalkInvariant points (chunk fudged) s start count (i + 1) (at + headSize fudged + n * 4) (w + n)
-  judge-more n e t u =
-      let long : points (chunkAt fudged s at n) ≡ n = length-each _ n in
-      rw long at (walk-more points (chunk fudged) s start count i at w more before (chunk-parsed fudged s at n e t u))
-
-pub judge-all : (fudged : Bool) (count : ℕ) (s : List ℕ) (start : ℕ) {at w : ℕ} → WalkInvariant points (chunk fudged) s start count count at w
-    → judged (parse (repeat count (chunk fudged)) s start) ≡ judge.Chunks (record { points = w; next = at })
-judge-all fudged count s start {at} {w} before = listed (parse (repeat count (chunk fudged)) s start) (walk-all points (chunk fudged) s start count before)
+-- turns of the loop over a list of chunks
+pub list-short : (fudged : Bool) (count : ℕ) (s : List ℕ) (start i at w : ℕ) → i < count → WalkInvariant points (chunk fudged) s start count i at w → parse (chunk fudged) s at ≡ short
+    → answer.Short ≡ chunksAnswer (parse (repeat count (chunk fudged)) s start)
+list-short fudged count s start i at w more before h = go (parse (repeat count (chunk fudged)) s start) (walk-short points (chunk fudged) s start count i at w more before h)
   where
-    listed : (o : Parsed (List Chunk)) → total points o ≡ parsed w at → judged o ≡ judge.Chunks (record { points = w; next = at })
-    listed short e = let c : _≡_ {A = ℕ} 0 1 = cc in absurd (omega arith)
-    listed (parsed cs next) e =
+    go : (o : Parsed (List Chunk)) → total points o ≡ short → answer.Short ≡ chunksAnswer o
+    go short e = refl
+    go (parsed cs next) e = let c : _≡_ {A = ℕ} 0 1 = cc in absurd (omega arith)
+
+pub list-all : (fudged : Bool) (count : ℕ) (s : List ℕ) (start : ℕ) {at w : ℕ} → WalkInvariant points (chunk fudged) s start count count at w
+    → answer.Chunks (record { points = w; next = at }) ≡ chunksAnswer (parse (repeat count (chunk fudged)) s start)
+list-all fudged count s start {at} {w} before = go (parse (repeat count (chunk fudged)) s start) (walk-all points (chunk fudged) s start count before)
+  where
+    go : (o : Parsed (List Chunk)) → total points o ≡ parsed w at → answer.Chunks (record { points = w; next = at }) ≡ chunksAnswer o
+    go short e = let c : _≡_ {A = ℕ} 0 1 = cc in absurd (omega arith)
+    go (parsed cs next) e =
         let p : sum points cs ≡ w = cc in
         let n : next ≡ at = cc in
         rw (p, n)

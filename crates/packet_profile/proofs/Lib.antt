@@ -1,4 +1,5 @@
 pub mod Chunks
+pub mod Signals
 pub mod Answers
 pub mod Size
 pub mod OneAnswer

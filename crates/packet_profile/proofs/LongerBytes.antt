@@ -6,7 +6,7 @@ use mathlib.Core.Bool.{Bool, true, false}
 use mathlib.Core.List.{List, _++_}
 use lib.Dec.{lit≤}
 use Rattle.refusal.specs.Outcome.{ok}
-use Rattle.parser.specs.Parser.{parse, repeat, _>>=_}
+use Rattle.parser.specs.Parser.{parse, repeat, counted, _>>=_}
 use Rattle.parser.specs.Call.{single}
 use Rattle.parser.specs.LongerBytes.{OnLongerBytes, PrefixProperty, Names, Completes}
 use Rattle.parser.proofs.Prefix.{prefix-parsed}
@@ -14,9 +14,9 @@ use Rattle.parser.proofs.Completion.{extent, bounded-more, ValueInvariant, inva
 use Rattle.parser.proofs.Calls.{prefix-property, only-part, single-completes}
 use Rattle.parser.proofs.OnLongerBytes.{one-part, plain-longer}
 use Rattle.parser.proofs.DemandBound.{DemandBound, Any, demand-sized, demand-known, demand-more, demand-done, demand-ahead, demand-repeat, demand-bind}
-use Rattle.packet_profile.specs.Profile.{isFudged, Head, head, headSize, values, chunk, Axis, axis, chunks, profile, located, readProfile, outcomeOf}
+use Rattle.packet_profile.specs.Profile.{isFudged, headSize, fudge, chunk, Axis, axis, profile, located, readProfile, outcomeOf}
 use Rattle.packet_profile.specs.declared.Profile.{Profile}
-use Rattle.packet_profile.proofs.Chunks.{whole, rest, head-sized, values-sized}
+use Rattle.packet_profile.proofs.Chunks.{Head, head, values, chunks, whole, rest, staged, head-sized, values-sized}
 use Rattle.packet_profile.proofs.OneAnswer.{profile-answer-one}
 use Rattle.packet_profile.proofs.Answers.{axis-sized, paired, profiled}
 use Rattle.packet_profile.proofs.Answers.{rest as beyond}
@@ -43,7 +43,7 @@ axis-counted = λ _ _ _ _ _ _ bs l p _ _ _. invariant-word 4 bs l p
 
 -- a chunk of zeros is a head alone
 chunk-zeros : (fudged : Bool) → extent (chunk fudged) ≤ 12
-unfolding chunk head values rest whole repeat
+unfolding chunk counted repeat
 chunk-zeros true = lit≤ tt
 chunk-zeros false = lit≤ tt
 
@@ -55,15 +55,15 @@ module _ (far : ℕ) where
       (demand-more far (h .count * 4) (2 ^ 34) (values (h .count)) Any (omega arith) (demand-sized far (h .count * 4) (values (h .count)) (values-sized (h .count))))
 
   chunk-demand : (fudged : Bool) → DemandBound far (12 + 2 ^ 34) Any (chunk fudged)
-  unfolding chunk rest whole
   chunk-demand fudged =
-      demand-bind far 12 (2 ^ 34) Counted Any rest rest-demand (head fudged)
+      rw staged
+      (demand-bind far 12 (2 ^ 34) Counted Any rest rest-demand (head fudged)
       (demand-more far (headSize fudged) 12 (head fudged) Counted (head-most fudged)
-      (demand-known far (headSize fudged) (head fudged) Any Counted (demand-sized far (headSize fudged) (head fudged) (head-sized fudged)) (head-counted fudged)))
+      (demand-known far (headSize fudged) (head fudged) Any Counted (demand-sized far (headSize fudged) (head fudged) (head-sized fudged)) (head-counted fudged))))
 
   -- so up to 2^32 - 1 chunks of up to 2^32 - 1 values ask for fewer than 2^37 bytes after the end
   chunks-demand : (fudged : Bool) (n : ℕ) → n < 256 ^ 4 → DemandBound far (2 ^ 37) Any (chunks fudged n)
-  unfolding chunks
+  unfolding counted
   chunks-demand fudged n h =
       demand-ahead far (2 ^ 37) (n * 8) Any (repeat n (chunk fudged)) (omega arith)
       (demand-more far (12 + 2 ^ 34 + n * 12) (2 ^ 37) (repeat n (chunk fudged)) Any (omega arith) (demand-repeat far (12 + 2 ^ 34) 12 n (chunk fudged) Any (chunk-demand fudged) (chunk-zeros fudged)))

@@ -1,6 +1,6 @@
 -- The place after a profile that was parsed, by its size.
 use mathlib.Core.Path.{_≡_, refl, ap, _∙_}
-use Prim.Native.Nat.{ℕ, zero, suc, _+_}
+use Prim.Native.Nat.{ℕ, zero, suc, _+_, _*_}
 use native.Mathlib.Omega.{arith}
 use mathlib.Core.Bool.{Bool}
 use mathlib.Core.List.{List, []}
@@ -8,19 +8,22 @@ use Rattle.lists.proofs.Laws.{length-each}
 use Rattle.parser.specs.Parser.{parsed, bytes, littleEndian, parse, repeat}
 use Rattle.parser.specs.Walk.{sum}
 use Rattle.parser.proofs.Walk.{first-of}
-use Rattle.packet_profile.specs.Profile.{isFudged, Chunk, points, chunk, Axis, profile, chunkSize, profileSize, located}
+use Rattle.packet_profile.specs.Profile.{isFudged, Chunk, points, chunk, Axis, profile, headSize, profileSize, located}
 use Rattle.packet_profile.proofs.Chunks.{whole-chunk}
 use Rattle.packet_profile.proofs.Answers.{profile-chunks}
 
 module _ (fudged : Bool) (s : List ℕ) where
-  chunk-end : (at : ℕ) {c : Chunk} {next : ℕ} → parse (chunk fudged) s at ≡ parsed c next → next ≡ at + chunkSize fudged c
+  abbrev size : Chunk → ℕ
+  size c = headSize fudged + points c * 4
+
+  chunk-end : (at : ℕ) {c : Chunk} {next : ℕ} → parse (chunk fudged) s at ≡ parsed c next → next ≡ at + size c
   chunk-end at {c} h =
       let n = littleEndian (bytes s (at + 4) 4) in
       let w = whole-chunk fudged s at n refl h in
       let long : points c ≡ n = ap points (w .is) ∙ length-each _ n in
       omega (arith, w .end, long)
 
-  chunks-end : (n at : ℕ) {cs : List Chunk} {next : ℕ} → parse (repeat n (chunk fudged)) s at ≡ parsed cs next → next ≡ at + sum (chunkSize fudged) cs
+  chunks-end : (n at : ℕ) {cs : List Chunk} {next : ℕ} → parse (repeat n (chunk fudged)) s at ≡ parsed cs next → next ≡ at + sum size cs
   unfolding parse repeat
   chunks-end zero at {cs} {next} h =
       let none : cs ≡ [] = cc h in

@@ -1,11 +1,11 @@
--- What is known of chunks by their places. No public promise cites it.
+-- What is known of a list of chunks by their places. No public promise cites it.
 use mathlib.Core.List.{List}
 use Rattle.parser.specs.Parser.{Parsed, short, parsed}
 use Rattle.parser.specs.Walk.{sum}
 use Rattle.packet_profile.specs.Profile.{Chunk, points}
-use Rattle.packet_profile.specs.declared.Judged.{Judged}
-use Rattle.packet_profile.specs.declared.Judged.the-variants as judge
+use Rattle.packet_profile.specs.declared.ChunksAnswer.{ChunksAnswer}
+use Rattle.packet_profile.specs.declared.ChunksAnswer.the-variants as answer
 
-abbrev pub judged : Parsed (List Chunk) → Judged
-judged short = judge.Short
-judged (parsed cs next) = judge.Chunks (record { points = sum points cs; next = next })
+abbrev pub chunksAnswer : Parsed (List Chunk) → ChunksAnswer
+chunksAnswer short = answer.Short
+chunksAnswer (parsed cs next) = answer.Chunks (record { points = sum points cs; next = next })

@@ -6,10 +6,12 @@ use lib.Dec.{eqb}
 use lib.ListN.{length}
 use Rattle.refusal.specs.Outcome.{Outcome, ok}
 use Rattle.refusal.specs.Number.{outcomeOfRefusal}
-use Rattle.parser.specs.Parser.{Parser, done, _>>=_, _>>_, bytes, littleEndian, word, checkCount, repeat, wordAt}
+use Rattle.parser.specs.Parser.{Parser, Parsed, short, parsed, done, _>>=_, _>>_, word, counted, wordAt}
 use Rattle.parser.specs.Walk.{sum}
 use Rattle.parser.specs.Call.{outcome, single}
 use Rattle.packet_profile.specs.declared.Profile.{Profile}
+use Rattle.packet_profile.specs.declared.SignalAnswer.{SignalAnswer}
+use Rattle.packet_profile.specs.declared.SignalAnswer.the-variants as signal
 use Rattle.packet_profile.specs.declared.ProfileAnswer.{ProfileAnswer}
 use Rattle.packet_profile.specs.declared.ProfileAnswer.the-variants as answer
 
@@ -17,28 +19,7 @@ use Rattle.packet_profile.specs.declared.ProfileAnswer.the-variants as a
 abbrev pub isFudged : ℕ → Bool
 isFudged layout = not (eqb (layout % 256) 0)
 
--- the first bin, how many values follow, and the fudge: the bits of an f32, or 0, which are those of 0.0, where there is none
-pub record Head : Type 0 where
-  pub firstBin : ℕ
-  pub count : ℕ
-  pub fudge : ℕ
-
-unfoldable pub head : Bool → Parser Head
-head true = do
-  firstBin ← word 4
-  count ← word 4
-  fudge ← word 4
-  done (record { firstBin = firstBin; count = count; fudge = fudge })
-head false = do
-  firstBin ← word 4
-  count ← word 4
-  done (record { firstBin = firstBin; count = count; fudge = 0 })
-
-abbrev pub headSize : Bool → ℕ
-headSize true = 12
-headSize false = 8
-
--- a chunk: its signal are the bits of f32
+-- a chunk: its signal are the bits of f32, and its fudge too: 0, which are those of 0.0, where there is none
 pub record Chunk : Type 0 where
   pub firstBin : ℕ
   pub fudge : ℕ
@@ -47,21 +28,32 @@ pub record Chunk : Type 0 where
 abbrev pub points : Chunk → ℕ
 points c = length (c .signal)
 
-unfoldable pub values : ℕ → Parser (List ℕ)
-values n = do
-  checkCount n 4
-  repeat n (word 4)
+abbrev pub fudge : Bool → Parser ℕ
+fudge true = word 4
+fudge false = done 0
 
 unfoldable pub chunk : Bool → Parser Chunk
 chunk fudged = do
-  h ← head fudged
-  signal ← values (h .count)
-  done (record { firstBin = h .firstBin; fudge = h .fudge; signal = signal })
+  firstBin ← word 4
+  count ← word 4
+  value ← fudge fudged
+  signal ← counted count 4 (word 4)
+  done (record { firstBin = firstBin; fudge = value; signal = signal })
+
+-- how many bytes of a chunk stand before its signal
+abbrev pub headSize : Bool → ℕ
+headSize true = 12
+headSize false = 8
 
 -- the fudge of the chunk at a place
 abbrev pub fudgeAt : Bool → List ℕ → ℕ → ℕ
 fudgeAt true s at = wordAt s (at + 8) 4
 fudgeAt false s at = 0
+
+-- of a chunk at `at` that was looked for: where its signal stands, how many values it has, and the place after it
+abbrev pub signalOf : Bool → ℕ → Parsed Chunk → SignalAnswer
+signalOf fudged at short = signal.Short
+signalOf fudged at (parsed c next) = signal.Signal (record { at = at + headSize fudged; points = points c; end = next })
 
 -- what stands before the chunks: the bits of two f64, and two counts
 pub record Axis : Type 0 where
@@ -78,23 +70,15 @@ axis = do
   nbins ← word 4
   done (record { firstValue = firstValue; step = step; peakCount = peakCount; nbins = nbins })
 
-unfoldable pub chunks : Bool → ℕ → Parser (List Chunk)
-chunks fudged count = do
-  checkCount count 8
-  repeat count (chunk fudged)
-
 unfoldable pub profile : ℕ → Parser (Axis × List Chunk)
 profile layout = do
   a ← axis
-  cs ← chunks (isFudged layout) (a .peakCount)
+  cs ← counted (a .peakCount) 8 (chunk (isFudged layout))
   done (a, cs)
 
 -- how many bytes it takes
-abbrev pub chunkSize : Bool → Chunk → ℕ
-chunkSize fudged c = headSize fudged + points c * 4
-
 abbrev pub profileSize : ℕ → Axis × List Chunk → ℕ
-profileSize layout p = 24 + sum (chunkSize (isFudged layout)) (p .1)
+profileSize layout p = 24 + sum (λ c. headSize (isFudged layout) + points c * 4) (p .1)
 
 -- the record of a profile that stands at `at`
 unfoldable pub located : ℕ → ℕ → Axis × List Chunk → Profile

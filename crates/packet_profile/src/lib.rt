@@ -2,8 +2,8 @@
 ghost use mathlib.Core.Path.{_≡_};
 ghost use Prim.Native.Nat.{_≤_};
 ghost use Rattle.parser.specs.Parser.{parse, repeat};
-ghost use Rattle.packet_profile.specs.Profile.{isFudged, headSize, chunk, fudgeAt, readProfile, outcomeOf};
-ghost use Rattle.packet_profile.specs.Internal.{judged};
+ghost use Rattle.packet_profile.specs.Profile.{isFudged, headSize, chunk, fudgeAt, signalOf, readProfile, outcomeOf};
+ghost use Rattle.packet_profile.specs.Internal.{chunksAnswer};
 use reader::remaining;
 use reader::saturating_add;
 use reader::u32_at;
@@ -32,15 +32,28 @@ pub enum ProfileAnswer {
     Refused(Refusal),
 }
 
+// Where a chunk's signal stands, how many values it has, and the place after it.
+pub struct Signal {
+    pub at: u64,
+    pub points: u64,
+    pub end: u64,
+}
+
+pub enum SignalAnswer {
+    Signal(Signal),
+    // The run ends before the chunk does.
+    Short,
+}
+
 // How many signal values the chunks hold, and the place after them.
 struct ChunkList {
     points: u64,
     next: u64,
 }
 
-enum Judged {
-    Short,
+enum ChunksAnswer {
     Chunks(ChunkList),
+    Short,
 }
 
 fn is_fudged(layout: u32) -> bool
@@ -69,27 +82,41 @@ pub fn fudge_at(run: &[u8], at: u64, fudged: bool) -> u32
     }
 }
 
-// Each chunk that is passed is there, so the loop ends with the run, whatever count is stored.
-fn judge_chunks(run: &[u8], start: u64, fudged: bool, count: u32) -> Judged
-    ensures { λ r. ⌜ r ≡ judged (parse (repeat count (chunk fudged)) (now (run .entry)) start) ⌝ }
+// The signal of the chunk at a place.
+pub fn signal_at(run: &[u8], at: u64, fudged: bool) -> SignalAnswer
+    ensures { λ r. ⌜ r ≡ signalOf fudged at (parse (chunk fudged) (now (run .entry)) at) ⌝ }
 {
     let head = head_size(fudged);
+    if remaining(run, at) < head {
+        return SignalAnswer::Short;
+    }
+    let points = u32_at(run, at + 4) as u64;
+    if remaining(run, at + head) < points * 4 {
+        return SignalAnswer::Short;
+    }
+    SignalAnswer::Signal(Signal {
+        at: at + head,
+        points,
+        end: at + head + points * 4,
+    })
+}
+
+// Each chunk that is passed is there, so the loop ends with the run, whatever count is stored.
+fn pass_chunks(run: &[u8], start: u64, fudged: bool, count: u32) -> ChunksAnswer
+    ensures { λ r. ⌜ r ≡ chunksAnswer (parse (repeat count (chunk fudged)) (now (run .entry)) start) ⌝ }
+{
     let mut at = start;
     let mut points: u64 = 0;
     let mut i: u32 = 0;
     while i < count {
-        if remaining(run, at) < head {
-            return Judged::Short;
-        }
-        let n = u32_at(run, at + 4) as u64;
-        if remaining(run, at + head) < n * 4 {
-            return Judged::Short;
-        }
-        points = points + n;
-        at = at + head + n * 4;
+        let SignalAnswer::Signal(signal) = signal_at(run, at, fudged) else {
+            return ChunksAnswer::Short;
+        };
+        points = points + signal.points;
+        at = signal.end;
         i = i + 1;
     }
-    Judged::Chunks(ChunkList { points, next: at })
+    ChunksAnswer::Chunks(ChunkList { points, next: at })
 }
 
 impl Profile {
@@ -105,7 +132,7 @@ impl Profile {
             return ProfileAnswer::Refused(Refusal::Short(Part::Data));
         }
         let fudged = is_fudged(layout);
-        let Judged::Chunks(chunks) = judge_chunks(run, at + 24, fudged, count) else {
+        let ChunksAnswer::Chunks(chunks) = pass_chunks(run, at + 24, fudged, count) else {
             return ProfileAnswer::Refused(Refusal::Short(Part::Data));
         };
         let profile = Profile {

@@ -9,8 +9,8 @@ use Rattle.parser.specs.Walk.{sum}
 use Rattle.packet_profile.specs.Profile.{points, chunk}
 use Rattle.packet_profile.specs.declared.Profile.{Profile}
 use Rattle.pairs.specs.Pairs.{chunksFrom, chunksOf}
-use Rattle.pairs.specs.declared.Signal.{Signal}
-use Rattle.pairs.proofs.Signals.{There, points-at}
+use Rattle.packet_profile.specs.declared.Signal.{Signal}
+use Rattle.packet_profile.proofs.Signals.{There, points-at}
 use Rattle.pairs.proofs.Chunks.{chunks-none, chunks-more, chunks-done}
 
 module _ (p : Profile) (s : List ℕ) where

@@ -6,8 +6,8 @@ use Prim.Native.Nat.{ℕ}
 use lib.IntN.{pos, negsuc}
 use lib.Ieee.{Float, fin, binary64, round, ofBits, toBits, ofInt, add, mul, eq}
 use Rattle.lists.specs.Written.{each}
-use Rattle.parser.specs.Parser.{parse, repeat}
-use Rattle.packet_profile.specs.Profile.{head, values, chunk}
+use Rattle.parser.specs.Parser.{parse, repeat, counted}
+use Rattle.packet_profile.specs.Profile.{chunk}
 use Rattle.packet_profile.specs.declared.Profile.{Profile}
 use Rattle.peaks.specs.Peaks.{peaksAt}
 use Rattle.calibration.specs.Convert.{freqToMz, mzOf}
@@ -37,11 +37,11 @@ run =
     ∷ 10 ∷ 0 ∷ 0 ∷ 0 ∷ 1 ∷ 0 ∷ 0 ∷ 0 ∷ 0x00 ∷ 0x00 ∷ 0x00 ∷ 0x00 ∷ 0x00 ∷ 0x00 ∷ 0x40 ∷ []
 
 pub three-pairs : profilePairs twoChunks [] (run ++ (0x40 ∷ [])) ≡ (fin false 405 (negsuc 1), w 1) ∷ (fin false 407 (negsuc 1), w 2) ∷ (w 105, w 3) ∷ []
-unfolding ofBits ofInt round add mul eq each parse repeat head values chunk freqToMz mzOf chunksFrom pairAt pairsOf profilePairs
+unfolding ofBits ofInt round add mul eq each parse repeat chunk counted freqToMz mzOf chunksFrom pairAt pairsOf profilePairs
 three-pairs = refl
 
 pub one-chunk-there : profilePairs twoChunks [] run ≡ (fin false 405 (negsuc 1), w 1) ∷ (fin false 407 (negsuc 1), w 2) ∷ []
-unfolding ofBits ofInt round add mul eq each parse repeat head values chunk freqToMz mzOf chunksFrom pairAt pairsOf profilePairs
+unfolding ofBits ofInt round add mul eq each parse repeat chunk counted freqToMz mzOf chunksFrom pairAt pairsOf profilePairs
 one-chunk-there = refl
 
 -- 500.03125 as an f32, and 2.0

@@ -1,4 +1,3 @@
-pub mod Signals
 pub mod Chunks
 pub mod Counting
 pub mod Writing

@@ -20,8 +20,8 @@ use Rattle.calibration.specs.Convert.{mzOf, chunkPairs}
 use Rattle.calibration.specs.declared.Bins.{Bins}
 use Rattle.calibration.proofs.Columns.{pairs-room}
 use Rattle.pairs.specs.Pairs.{Pair, chunksFrom, chunksOf, binsOf, pairAt, pairsOf, profilePairs}
-use Rattle.pairs.specs.declared.Signal.{Signal}
-use Rattle.pairs.proofs.Signals.{There, points-at}
+use Rattle.packet_profile.specs.declared.Signal.{Signal}
+use Rattle.packet_profile.proofs.Signals.{There, points-at}
 use Rattle.pairs.proofs.Chunks.{chunks-none, chunks-more, chunks-done}
 
 each-below : {A : Type 0} (f g : ℕ → A) (n : ℕ) → ((i : ℕ) → i < n → f i ≡ g i) → each f n ≡ each g n

@@ -6,58 +6,25 @@ ghost use Prim.Native.Nat.{_+_, _*_, _≤_};
 ghost use lib.ListN.{length};
 ghost use Rattle.lists.specs.Left.{firsts, seconds, pairsIfFit, LeftPairs};
 ghost use Rattle.lists.specs.Written.{each, over};
-ghost use Rattle.parser.specs.Parser.{parse};
 ghost use Rattle.parser.specs.Walk.{sum};
-ghost use Rattle.packet_profile.specs.Profile.{points as pointsOf, chunk};
+ghost use Rattle.packet_profile.specs.Profile.{points as pointsOf};
 ghost use Rattle.peaks.specs.Peaks.{peaksAt};
 ghost use Rattle.pairs.specs.Pairs.{chunksOf, profilePairs, peakPairs};
-ghost use Rattle.pairs.specs.Internal.{signalOf, floatAt};
+ghost use Rattle.pairs.specs.Internal.{floatAt};
 use calibration::Bins;
 use calibration::write_chunk;
 use float_bits::f64_of_bits;
 use float_bits::widened;
 use lists::holds;
 use packet_profile::Profile;
+use packet_profile::SignalAnswer;
 use packet_profile::fudge_at;
-use packet_profile::head_size;
-use reader::remaining;
+use packet_profile::signal_at;
 use reader::saturating_add;
 use reader::u32_at;
 use reader::u64_at;
 use refusal::CountAnswer;
 use refusal::Refusal;
-
-// Where a chunk's signal stands, how many values it has, and the place after it.
-struct Signal {
-    at: u64,
-    points: u64,
-    end: u64,
-}
-
-enum SignalAnswer {
-    Signal(Signal),
-    // The run ends before the chunk does.
-    Short,
-}
-
-// The signal of the chunk at a place.
-fn signal_at(run: &[u8], at: u64, fudged: bool) -> SignalAnswer
-    ensures { λ r. ⌜ r ≡ signalOf fudged at (parse (chunk fudged) (now (run .entry)) at) ⌝ }
-{
-    let head = head_size(fudged);
-    if remaining(run, at) < head {
-        return SignalAnswer::Short;
-    }
-    let points = u32_at(run, at + 4) as u64;
-    if remaining(run, at + head) < points * 4 {
-        return SignalAnswer::Short;
-    }
-    SignalAnswer::Signal(Signal {
-        at: at + head,
-        points,
-        end: at + head + points * 4,
-    })
-}
 
 // How many pairs a profile has. A count of chunks that the run does not hold costs no more turns than it has chunks.
 fn count_pairs(run: &[u8], profile: Profile) -> u64

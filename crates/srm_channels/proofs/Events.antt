@@ -1,16 +1,17 @@
--- The channel list goes by which numbers are among the events, not by how often one stands there.
+-- The channel list goes by which numbers are events, not by how often one stands there.
 use mathlib.Core.Path.{_≡_, refl}
 use mathlib.Core.Bool.{Bool, true, false, _||_}
 use mathlib.Core.List.{List, _∷_}
-use Prim.Native.Nat.{ℕ}
+use Prim.Native.Nat.{ℕ, _-_}
 use lib.Dec.{eqb}
-use Rattle.srm_channels.specs.Channels.{among, channelTest, channelAt, channelsIn}
-use Rattle.srm_channels.proofs.Passing.{passing-same}
+use lib.ListN.{length}
+use Rattle.srm_channels.specs.Channels.{isEvent, channelTest, channelsIn}
+use Rattle.srm_transition.proofs.Places.{places-same}
 
-pub channels-same-events : (events others s : List ℕ) → ((id : ℕ) → among id others ≡ among id events) → channelsIn others s ≡ channelsIn events s
+pub channels-same-events : (events others s : List ℕ) → ((id : ℕ) → isEvent id others ≡ isEvent id events) → channelsIn others s ≡ channelsIn events s
 unfolding channelsIn channelTest
 channels-same-events events others s h =
-    passing-same (channelTest events s) (channelTest others s) (channelAt s) (channelAt s) _ _ (λ i _ _. rw h) (λ i _ _. refl)
+    rw (places-same (channelTest events s) (channelTest others s) 24 (length s - 48) (λ i. rw h))
 
 or-twice : (a b : Bool) → a || (a || b) ≡ a || b
 or-twice true b = refl
@@ -18,6 +19,6 @@ or-twice false b = refl
 
 -- an event number that stands twice gives its channels once
 pub channels-event-twice : (event : ℕ) (events s : List ℕ) → channelsIn (event ∷ event ∷ events) s ≡ channelsIn (event ∷ events) s
-unfolding among
+unfolding isEvent
 channels-event-twice event events s =
-    channels-same-events (event ∷ events) (event ∷ event ∷ events) s (λ id. or-twice (eqb event id) (among id events))
+    channels-same-events (event ∷ events) (event ∷ event ∷ events) s (λ id. or-twice (eqb event id) (isEvent id events))

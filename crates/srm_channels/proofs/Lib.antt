@@ -1,6 +1,6 @@
 pub mod Constants
-pub mod Passing
-pub mod Among
+pub mod Turns
+pub mod IsEvent
 pub mod Answers
 pub mod LongerBytes
 pub mod Events

@@ -1,12 +1,14 @@
 // Every channel of a method's bytes that belongs to an event of the run (`flatv66_event_channels` of reader.rs). The event
 // numbers are a slice. A record may start at any place, so every place is tested.
 ghost use mathlib.Core.Path.{_≡_};
-ghost use mathlib.Core.List.{map};
+ghost use mathlib.Core.List.{[], _∷_, map};
 ghost use Prim.Native.Nat.{_+_, _-_, _≤_, _<_};
 ghost use lib.ListN.{length};
+ghost use Rattle.refusal.specs.Number.{outcomeOfCount};
 ghost use Rattle.lists.specs.Written.{over};
-ghost use Rattle.parser.specs.Parser.{bytes, littleEndian, wordAt};
-ghost use Rattle.srm_channels.specs.Channels.{among, fromUpTo, channelTest, channelAt, channelsIn, slices, Channels};
+ghost use Rattle.lists.specs.Left.{LeftLists};
+ghost use Rattle.parser.specs.Parser.{wordAt};
+ghost use Rattle.srm_channels.specs.Channels.{isEvent, fromUpTo, channelTest, channelAt, channelsIn, channelList};
 use lists::holds;
 use reader::remaining;
 use reader::u32_at;
@@ -25,7 +27,7 @@ pub struct Channel {
 
 // A number that stands twice among the events is found once.
 fn is_event(id: u32, events: &[u16]) -> bool
-    ensures { λ r. ⌜ r ≡ among id (now (events .entry)) ⌝ }
+    ensures { λ r. ⌜ r ≡ isEvent id (now (events .entry)) ⌝ }
 {
     let mut k: usize = 0;
     while k < events.len() {
@@ -130,8 +132,8 @@ pub fn flatv66_event_channels(
     q1: &mut [u64],
     collision_energy: &mut [u64],
 ) -> CountAnswer
-    ensures { λ r. ⌜ Channels (now (events .entry)) (now («data» .entry)) (slices (now («channel_events» .entry)) (now (q1 .entry)) (now («collision_energy» .entry)))
-        r (slices (now («channel_events» .exit)) (now (q1 .exit)) (now («collision_energy» .exit))) ⌝ }
+    ensures { λ r. ⌜ LeftLists (channelList (now (events .entry)) (now («data» .entry))) (now («channel_events» .entry) ∷ now (q1 .entry) ∷ now («collision_energy» .entry) ∷ [])
+        (outcomeOfCount r) (now («channel_events» .exit) ∷ now (q1 .exit) ∷ now («collision_energy» .exit) ∷ []) ⌝ }
 {
     let count = count_channels(data, events);
     let n = count as u64;

@@ -2,7 +2,7 @@
 use mathlib.Core.Path.{_≡_, refl, ap, sym}
 use Prim.Native.Nat.{ℕ, _*_, _-_, _≤_, _<_}
 use native.Mathlib.Omega.{arith}
-use mathlib.Core.Bool.{Bool, true, false, cond}
+use mathlib.Core.Bool.{Bool, true, false, cond, _||_}
 use mathlib.Core.List.{List, [], _∷_}
 use lib.Dec.{leb, ltb}
 use lib.ListN.{length}
@@ -10,67 +10,70 @@ use borrow.Author.Tests.{le-leb, lt-leb}
 use Rattle.refusal.specs.Outcome.{Outcome, ok, refused, ranOut}
 use Rattle.lists.specs.Left.{pairsIfFit}
 use Rattle.lists.proofs.Laws.{each-none}
-use Rattle.parser.specs.Parser.{done, seek, Parsed, short, parsed, left, within, parse}
+use Rattle.parser.specs.Parser.{done, seek, Parsed, short, parsed, left, within, parse, saturatingAdd}
 use Rattle.parser.specs.Call.{onward, outcome, single}
 use Rattle.parser.proofs.Prefix.{after, parse-bind}
 use Rattle.peaks.specs.Peaks.{Peak, peaksAt}
 use Rattle.peaks.proofs.Columns.{length-peaks}
-use Rattle.srm_flat_peaks.specs.Flat.{recordEnd, looksValid, Attempt, accepted, passedOver, peaksFrom, attempt, orElse, attempts, flatPeaks, ofAccepted, placeAndCount, readFlatPeaks, findFlatPeaks}
-use Rattle.srm_flat_peaks.specs.Internal.{judged}
-use Rattle.srm_flat_peaks.specs.declared.Judged.{Judged}
-use Rattle.srm_flat_peaks.specs.declared.Judged.the-variants.{Accepted, PassedOver, RanOut}
+use Rattle.srm_flat_peaks.specs.Flat.{looksValid, Attempt, accepted, passedOver, peaksFrom, attempt, orElse, attempts, flatPeaks, ofAccepted, readFlatPeaks, findFlatPeaks}
+use Rattle.srm_flat_peaks.specs.Internal.{attemptAnswer}
+use Rattle.srm_flat_peaks.specs.declared.AttemptAnswer.{AttemptAnswer}
+use Rattle.srm_flat_peaks.specs.declared.AttemptAnswer.the-variants.{Accepted, PassedOver, RanOut}
 use Rattle.srm_flat_peaks.proofs.Attempts.{parse-from}
 
 -- ---- the two attempts
 module _ (end cumEnd dataSize : ℕ) (s : List ℕ) where
   -- an attempt goes to its own place
-  anywhere : (subtract p q : ℕ) → judged (parse (attempt end cumEnd dataSize subtract) s p) ≡ judged (parse (attempt end cumEnd dataSize subtract) s q)
+  anywhere : (subtract p q : ℕ) → attemptAnswer (parse (attempt end cumEnd dataSize subtract) s p) ≡ attemptAnswer (parse (attempt end cumEnd dataSize subtract) s q)
   unfolding attempt parse
   anywhere subtract p q = go (leb dataSize subtract) (ltb cumEnd ((dataSize - subtract) * 9)) (end - (dataSize - subtract) * 9) (dataSize - subtract)
     where
       go : (a b : Bool) (start n : ℕ)
-          → judged (parse (cond a (done passedOver) (cond b (done passedOver) (seek start (peaksFrom start n)))) s p)
-          ≡ judged (parse (cond a (done passedOver) (cond b (done passedOver) (seek start (peaksFrom start n)))) s q)
+          → attemptAnswer (parse (cond (a || b) (done passedOver) (seek start (peaksFrom start n))) s p)
+          ≡ attemptAnswer (parse (cond (a || b) (done passedOver) (seek start (peaksFrom start n))) s q)
       go true b start n = refl
       go false true start n = refl
       go false false start n = refl
 
   -- the second, where the first was passed over
-  abbrev orNext : Judged → Judged → Judged
+  abbrev orNext : AttemptAnswer → AttemptAnswer → AttemptAnswer
   orNext PassedOver j = j
   orNext (Accepted place count) j = Accepted place count
   orNext RanOut j = RanOut
 
-  both : (at : ℕ) → orNext (judged (parse (attempt end cumEnd dataSize 1) s at)) (judged (parse (attempt end cumEnd dataSize 2) s at))
-      ≡ judged (parse (attempts end cumEnd dataSize) s at)
+  both : (at : ℕ) → orNext (attemptAnswer (parse (attempt end cumEnd dataSize 1) s at)) (attemptAnswer (parse (attempt end cumEnd dataSize 2) s at))
+      ≡ attemptAnswer (parse (attempts end cumEnd dataSize) s at)
   unfolding attempts parse
   both at = rw parse-bind (go (parse (attempt end cumEnd dataSize 1) s at))
     where
-      go : (o : Parsed Attempt) → orNext (judged o) (judged (parse (attempt end cumEnd dataSize 2) s at))
-          ≡ judged (after o (λ a next. parse (orElse (attempt end cumEnd dataSize 2) a) s next))
+      go : (o : Parsed Attempt) → orNext (attemptAnswer o) (attemptAnswer (parse (attempt end cumEnd dataSize 2) s at))
+          ≡ attemptAnswer (after o (λ a next. parse (orElse (attempt end cumEnd dataSize 2) a) s next))
       go short = refl
       go (parsed (accepted place peaks) next) = refl
       go (parsed passedOver next) = anywhere 2 at next
 
   -- of an attempt that decides, and of one that is passed over
-  pub by-both : (at : ℕ) (i j : Judged) → i ≡ judged (parse (attempt end cumEnd dataSize 1) s at) → j ≡ judged (parse (attempt end cumEnd dataSize 2) s at)
-      → orNext i j ≡ judged (parse (attempts end cumEnd dataSize) s at)
+  pub by-both : (at : ℕ) (i j : AttemptAnswer) → i ≡ attemptAnswer (parse (attempt end cumEnd dataSize 1) s at) → j ≡ attemptAnswer (parse (attempt end cumEnd dataSize 2) s at)
+      → orNext i j ≡ attemptAnswer (parse (attempts end cumEnd dataSize) s at)
   by-both at i j e f = rw (e, f) (both at)
 
 -- ---- what is found
--- what a call tells of attempts that were judged
-abbrev pub outcomeOfJudged : Judged → Outcome (ℕ × ℕ)
-outcomeOfJudged (Accepted place count) = ok (place, count)
-outcomeOfJudged PassedOver = refused 2 []
-outcomeOfJudged RanOut = ranOut 4
+abbrev foundAt : ℕ → List Peak → Outcome (ℕ × ℕ)
+foundAt place peaks = ok (place, length peaks)
 
-outcome-by : (o : Parsed Attempt) → outcomeOfJudged (judged o) ≡ onward 4 o (λ a _. ofAccepted placeAndCount a)
+-- what a call tells of attempts that were attemptAnswer
+abbrev pub outcomeOfAttempt : AttemptAnswer → Outcome (ℕ × ℕ)
+outcomeOfAttempt (Accepted place count) = ok (place, count)
+outcomeOfAttempt PassedOver = refused 2 []
+outcomeOfAttempt RanOut = ranOut 4
+
+outcome-by : (o : Parsed Attempt) → outcomeOfAttempt (attemptAnswer o) ≡ onward 4 o (λ a _. ofAccepted foundAt a)
 outcome-by short = refl
 outcome-by (parsed (accepted place peaks) next) = refl
 outcome-by (parsed passedOver next) = refl
 
-module _ (place cumEnd dataSize : ℕ) (s : List ℕ) (end : ℕ) (is : end ≡ recordEnd place cumEnd) where
-  found-by : findFlatPeaks place cumEnd dataSize s ≡ outcomeOfJudged (judged (parse (flatPeaks end cumEnd dataSize) s end))
+module _ (place cumEnd dataSize : ℕ) (s : List ℕ) (end : ℕ) (is : end ≡ saturatingAdd place cumEnd) where
+  found-by : findFlatPeaks place cumEnd dataSize s ≡ outcomeOfAttempt (attemptAnswer (parse (flatPeaks end cumEnd dataSize) s end))
   unfolding findFlatPeaks outcome
   found-by = rw (← is) (sym (outcome-by (parse (flatPeaks end cumEnd dataSize) s end)))
 
@@ -78,7 +81,7 @@ module _ (place cumEnd dataSize : ℕ) (s : List ℕ) (end : ℕ) (is : end ≡ 
   unfolding flatPeaks parse
   no-peaks t = rw (found-by, le-leb _ _ t)
 
-  pub by-attempts : 1 < dataSize → (j : Judged) → j ≡ judged (parse (attempts end cumEnd dataSize) s end) → outcomeOfJudged j ≡ findFlatPeaks place cumEnd dataSize s
+  pub by-attempts : 1 < dataSize → (j : AttemptAnswer) → j ≡ attemptAnswer (parse (attempts end cumEnd dataSize) s end) → outcomeOfAttempt j ≡ findFlatPeaks place cumEnd dataSize s
   unfolding flatPeaks
   by-attempts t j e = rw (found-by, lt-leb _ _ t, e)
 
@@ -104,7 +107,7 @@ module _ (s : List ℕ) where
   unfolding attempt parse
   attempt-stands end cumEnd dataSize subtract at = go (leb dataSize subtract) (ltb cumEnd ((dataSize - subtract) * 9)) (end - (dataSize - subtract) * 9) (dataSize - subtract)
     where
-      go : (a b : Bool) (start n : ℕ) → Stands s (parse (cond a (done passedOver) (cond b (done passedOver) (seek start (peaksFrom start n)))) s at)
+      go : (a b : Bool) (start n : ℕ) → Stands s (parse (cond (a || b) (done passedOver) (seek start (peaksFrom start n))) s at)
       go true b start n = tt
       go false true start n = tt
       go false false start n = from-stands start n
@@ -129,13 +132,13 @@ module _ (s : List ℕ) where
 -- whatever follows of peaks that were found, or of a refusal
 module _ {A : Type 0} (follow : List Peak → Outcome A) (place cumEnd dataSize : ℕ) (s : List ℕ) where
   pub then-found : (p n : ℕ) → ok (p, n) ≡ findFlatPeaks place cumEnd dataSize s
-      → follow (peaksAt false 8 s p n) ≡ outcome (single 4 (recordEnd place cumEnd) (flatPeaks (recordEnd place cumEnd) cumEnd dataSize) (λ v _. ofAccepted (λ _ peaks. follow peaks) v)) s
+      → follow (peaksAt false 8 s p n) ≡ outcome (single 4 (saturatingAdd place cumEnd) (flatPeaks (saturatingAdd place cumEnd) cumEnd dataSize) (λ v _. ofAccepted (λ _ peaks. follow peaks) v)) s
   unfolding findFlatPeaks outcome
   then-found p n =
-      let end = recordEnd place cumEnd in
+      let end = saturatingAdd place cumEnd in
       go (parse (flatPeaks end cumEnd dataSize) s end) (flat-stands s end cumEnd dataSize)
     where
-      go : (o : Parsed Attempt) → Stands s o → ok (p, n) ≡ onward 4 o (λ v _. ofAccepted placeAndCount v)
+      go : (o : Parsed Attempt) → Stands s o → ok (p, n) ≡ onward 4 o (λ v _. ofAccepted foundAt v)
           → follow (peaksAt false 8 s p n) ≡ onward 4 o (λ v _. ofAccepted (λ _ peaks. follow peaks) v)
       go short h e = let z : _≡_ {A = ℕ} 0 1 = cc in absurd (omega arith)
       go (parsed (accepted q peaks) next) h e =
@@ -146,13 +149,13 @@ module _ {A : Type 0} (follow : List Peak → Outcome A) (place cumEnd dataSize 
       go (parsed passedOver next) h e = let z : _≡_ {A = ℕ} 0 1 = cc in absurd (omega arith)
 
   pub then-refused : {number : ℕ} {carries : List ℕ} → refused number carries ≡ findFlatPeaks place cumEnd dataSize s
-      → refused number carries ≡ outcome (single 4 (recordEnd place cumEnd) (flatPeaks (recordEnd place cumEnd) cumEnd dataSize) (λ v _. ofAccepted (λ _ peaks. follow peaks) v)) s
+      → refused number carries ≡ outcome (single 4 (saturatingAdd place cumEnd) (flatPeaks (saturatingAdd place cumEnd) cumEnd dataSize) (λ v _. ofAccepted (λ _ peaks. follow peaks) v)) s
   unfolding findFlatPeaks outcome
   then-refused {number} {carries} =
-      let end = recordEnd place cumEnd in
+      let end = saturatingAdd place cumEnd in
       go (parse (flatPeaks end cumEnd dataSize) s end)
     where
-      go : (o : Parsed Attempt) → refused number carries ≡ onward 4 o (λ v _. ofAccepted placeAndCount v)
+      go : (o : Parsed Attempt) → refused number carries ≡ onward 4 o (λ v _. ofAccepted foundAt v)
           → refused number carries ≡ onward 4 o (λ v _. ofAccepted (λ _ peaks. follow peaks) v)
       go short e = let q : number ≡ 1 = cc in let r : carries ≡ 4 ∷ [] = cc in rw (q, r)
       go (parsed (accepted q peaks) next) e = let z : _≡_ {A = ℕ} 0 1 = cc in absurd (omega arith)

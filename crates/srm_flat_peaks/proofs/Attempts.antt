@@ -9,66 +9,65 @@ use lib.Dec.{leb}
 use lib.Ieee.{binary32, ofBits}
 use borrow.Author.Tests.{le-leb, lt-leb, le-ltb, lt-ltb}
 use Rattle.lists.proofs.Laws.{each-same, each-cons}
-use Rattle.parser.specs.Parser.{Parser, ahead, parsed, bytes, littleEndian, left, within, parse, repeat}
+use Rattle.parser.specs.Parser.{Parser, done, parsed, bytes, littleEndian, left, within, parse, counted}
 use Rattle.parser.specs.Internal.{Sized, value}
 use Rattle.parser.proofs.Fixed.{parse-stage, sized-counted, value-each}
 use Rattle.peaks.specs.Peaks.{Peak, peak, peakAt, peaksAt}
 use Rattle.peaks.proofs.Columns.{length-peaks}
 use Rattle.peaks.proofs.Columns.{widened-same}
-use Rattle.srm_flat_peaks.specs.Flat.{plausible, looksValid, accepted, passedOver, verdict, peaksFrom, attempt}
-use Rattle.srm_flat_peaks.specs.Internal.{judged}
-use Rattle.srm_flat_peaks.specs.declared.Judged.the-variants.{Accepted, PassedOver, RanOut}
+use Rattle.srm_flat_peaks.specs.Flat.{isPlausible, looksValid, accepted, passedOver, peaksFrom, attempt}
+use Rattle.srm_flat_peaks.specs.Internal.{attemptAnswer}
+use Rattle.srm_flat_peaks.specs.declared.AttemptAnswer.the-variants.{Accepted, PassedOver, RanOut}
 
 peak-sized : Sized 8 (peak false)
 unfolding peak
 peak-sized = λ _ _. tt
 
--- the peaks that were counted before
-unfoldable pub counted : ℕ → Parser (List Peak)
-counted n = ahead (n * 8) (repeat n (peak false))
+abbrev pub peaksOf : ℕ → Parser (List Peak)
+peaksOf n = counted n 8 (peak false)
 
-pub counted-sized : (n : ℕ) → Sized (n * 8) (counted n)
+pub peaks-sized : (n : ℕ) → Sized (n * 8) (peaksOf n)
 unfolding counted
-counted-sized n = sized-counted 8 (peak false) peak-sized n
+peaks-sized n = sized-counted 8 (peak false) peak-sized n
 
 module _ (s : List ℕ) (place : ℕ) where
-  counted-value : (n : ℕ) → value (counted n) s place 0 ≡ peaksAt false 8 s place n
+  peaks-value : (n : ℕ) → value (peaksOf n) s place 0 ≡ peaksAt false 8 s place n
   unfolding counted peaksAt peak
-  counted-value n =
+  peaks-value n =
       let here : (i : ℕ) → 0 + i * 8 ≡ i * 8 = λ i. zero-add (i * 8) in
       let beyond : (i : ℕ) → place + (i * 8 + 4) ≡ place + i * 8 + 4 = λ i. omega arith in
       value-each 8 (peak false) peak-sized n s place 0 ∙ each-same _ _ n (λ i. rw (here i, beyond i))
 
   pub parse-from : (n at : ℕ) → parse (peaksFrom at n) s place
       ≡ within (leb (n * 8) (left s place)) (parsed (cond (looksValid (peaksAt false 8 s place n)) (accepted at (peaksAt false 8 s place n)) passedOver) (place + n * 8))
-  unfolding peaksFrom counted parse
-  parse-from n at = parse-stage (n * 8) (counted n) (verdict at) (counted-sized n) s place ∙ rw (counted-value n)
+  unfolding peaksFrom parse
+  parse-from n at = parse-stage (n * 8) (peaksOf n) (λ ps. done (cond (looksValid ps) (accepted at ps) passedOver)) (peaks-sized n) s place ∙ rw (peaks-value n)
 
   -- the first peak decides
-  first-decides : (n : ℕ) → 0 < n → looksValid (peaksAt false 8 s place n) ≡ plausible (ofBits binary32 (littleEndian (bytes s place 4)))
+  first-decides : (n : ℕ) → 0 < n → looksValid (peaksAt false 8 s place n) ≡ isPlausible (ofBits binary32 (littleEndian (bytes s place 4)))
   unfolding peaksAt
   first-decides zero h = absurd (omega arith)
-  first-decides (suc n) h = rw (each-cons (λ i. peakAt false s (place + i * 8)) n, zero-mul, add-zero) (ap plausible (widened-same (littleEndian (bytes s place 4))))
+  first-decides (suc n) h = rw (each-cons (λ i. peakAt false s (place + i * 8)) n, zero-mul, add-zero) (ap isPlausible (widened-same (littleEndian (bytes s place 4))))
 
 -- ---- each way out of an attempt
 module _ (end cumEnd dataSize subtract : ℕ) (s : List ℕ) (at : ℕ) where
-  pub too-few : dataSize ≤ subtract → PassedOver ≡ judged (parse (attempt end cumEnd dataSize subtract) s at)
+  pub too-few : dataSize ≤ subtract → PassedOver ≡ attemptAnswer (parse (attempt end cumEnd dataSize subtract) s at)
   unfolding attempt parse
   too-few t = rw (le-leb _ _ t)
 
   module _ (t : subtract < dataSize) where
-    pub too-long : cumEnd < (dataSize - subtract) * 9 → PassedOver ≡ judged (parse (attempt end cumEnd dataSize subtract) s at)
+    pub too-long : cumEnd < (dataSize - subtract) * 9 → PassedOver ≡ attemptAnswer (parse (attempt end cumEnd dataSize subtract) s at)
     unfolding attempt parse
     too-long u = rw (lt-leb _ _ t, lt-ltb _ _ u)
 
     module _ (u : (dataSize - subtract) * 9 ≤ cumEnd) (place : ℕ) (e : place ≡ end - (dataSize - subtract) * 9) where
-      pub runs-out : left s place < (dataSize - subtract) * 8 → RanOut ≡ judged (parse (attempt end cumEnd dataSize subtract) s at)
+      pub runs-out : left s place < (dataSize - subtract) * 8 → RanOut ≡ attemptAnswer (parse (attempt end cumEnd dataSize subtract) s at)
       unfolding attempt parse
       runs-out v = rw (lt-leb _ _ t, le-ltb _ _ u, ← e, parse-from s place (dataSize - subtract) place, lt-leb _ _ v)
 
       module _ (v : (dataSize - subtract) * 8 ≤ left s place) where
-        pub plausible-first : plausible (ofBits binary32 (littleEndian (bytes s place 4))) ≡ true
-            → Accepted place (dataSize - subtract) ≡ judged (parse (attempt end cumEnd dataSize subtract) s at)
+        pub plausible-first : isPlausible (ofBits binary32 (littleEndian (bytes s place 4))) ≡ true
+            → Accepted place (dataSize - subtract) ≡ attemptAnswer (parse (attempt end cumEnd dataSize subtract) s at)
         unfolding attempt parse
         plausible-first w =
             rw (
@@ -82,8 +81,8 @@ module _ (end cumEnd dataSize subtract : ℕ) (s : List ℕ) (at : ℕ) where
               length-peaks false 8 s place (dataSize - subtract),
             )
 
-        pub implausible-first : plausible (ofBits binary32 (littleEndian (bytes s place 4))) ≡ false
-            → PassedOver ≡ judged (parse (attempt end cumEnd dataSize subtract) s at)
+        pub implausible-first : isPlausible (ofBits binary32 (littleEndian (bytes s place 4))) ≡ false
+            → PassedOver ≡ attemptAnswer (parse (attempt end cumEnd dataSize subtract) s at)
         unfolding attempt parse
         implausible-first w =
             rw (

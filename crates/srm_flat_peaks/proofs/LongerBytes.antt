@@ -2,39 +2,37 @@
 use mathlib.Core.Path.{_≡_}
 use Prim.Native.Nat.{ℕ, _*_, _-_, _^_, _≤_, _<_}
 use native.Mathlib.Omega.{arith}
-use mathlib.Core.Bool.{Bool, true, false, cond}
+use mathlib.Core.Bool.{Bool, true, false, cond, _||_}
 use mathlib.Core.List.{List, []}
 use lib.Dec.{leb, ltb, lit≤}
 use lib.ListN.{length}
-use Rattle.refusal.specs.Outcome.{Outcome}
-use Rattle.parser.specs.Parser.{done, seek}
-use Rattle.parser.specs.Call.{outcome, single}
+use Rattle.refusal.specs.Outcome.{Outcome, ok}
+use Rattle.parser.specs.Parser.{Parser, done, seek, saturatingAdd}
 use Rattle.parser.specs.LongerBytes.{OnLongerBytes, PrefixProperty, Names, Completes}
 use Rattle.parser.proofs.Completion.{Bounded, extent, bounded-sized, bounded-bind, bounded-more, invariant-any}
-use Rattle.parser.proofs.Calls.{not-truncated-pairs, NotTruncated, prefix-property, only-part, single-completes}
-use Rattle.parser.proofs.OnLongerBytes.{one-part, left-longer, plain-longer}
+use Rattle.parser.proofs.Calls.{not-truncated-pairs, NotTruncated}
+use Rattle.peaks.proofs.OnePart.{call-prefix, call-names, call-completes, call-longer, pairs-longer}
 use Rattle.refusal.specs.Number.{outcomeOfCount}
-use Rattle.refusal.proofs.OneAnswer.{count-one}
-use Rattle.lists.specs.Left.{columns, pairsIfFit, LeftPairs}
+use Rattle.lists.specs.Left.{pairsIfFit, LeftPairs}
 use Rattle.peaks.specs.Peaks.{Peak, outcomeOfPlace}
 use Rattle.peaks.proofs.OneAnswer.{place-answer-one}
-use Rattle.srm_flat_peaks.specs.Flat.{recordEnd, Attempt, accepted, passedOver, verdict, peaksFrom, attempt, orElse, attempts, flatPeaks, ofAccepted, placeAndCount, readFlatPeaks, findFlatPeaks}
-use Rattle.srm_flat_peaks.proofs.Attempts.{counted, counted-sized}
+use Rattle.srm_flat_peaks.specs.Flat.{Attempt, accepted, passedOver, looksValid, peaksFrom, attempt, orElse, attempts, flatPeaks, ofAccepted, readFlatPeaks, findFlatPeaks}
+use Rattle.srm_flat_peaks.proofs.Attempts.{peaksOf, peaks-sized}
 
 module _ (end cumEnd dataSize : ℕ) (near : end < 2 ^ 62) (size : dataSize < 2 ^ 32) where
   -- peaks ask for at most 2^35 bytes
   from-bounded : (place n : ℕ) → n < 2 ^ 32 → Bounded (2 ^ 62) (2 ^ 35) (peaksFrom place n)
-  unfolding peaksFrom counted
+  unfolding peaksFrom
   from-bounded place n few =
-      bounded-bind (λ _. Unit {0}) (verdict place) (2 ^ 62) (2 ^ 35) 0 (λ _ _. lit≤ tt) (λ _ _. tt) (counted n) (invariant-any (counted n))
-      (bounded-sized (2 ^ 62) (n * 8) (2 ^ 35) (counted n) (omega arith) (counted-sized n))
+      bounded-bind (λ _. Unit {0}) (λ ps. done (cond (looksValid ps) (accepted place ps) passedOver)) (2 ^ 62) (2 ^ 35) 0 (λ _ _. lit≤ tt) (λ _ _. tt) (peaksOf n) (invariant-any (peaksOf n))
+      (bounded-sized (2 ^ 62) (n * 8) (2 ^ 35) (peaksOf n) (omega arith) (peaks-sized n))
 
   attempt-bounded : (subtract : ℕ) → Bounded (2 ^ 62) (2 ^ 35) (attempt end cumEnd dataSize subtract)
   unfolding attempt
   attempt-bounded subtract = go (leb dataSize subtract) (ltb cumEnd ((dataSize - subtract) * 9)) (end - (dataSize - subtract) * 9) (dataSize - subtract) (omega arith) (omega arith)
     where
       go : (a b : Bool) (start n : ℕ) → start ≤ 2 ^ 62 → n < 2 ^ 32
-          → Bounded (2 ^ 62) (2 ^ 35) (cond a (done passedOver) (cond b (done passedOver) (seek start (peaksFrom start n))))
+          → Bounded (2 ^ 62) (2 ^ 35) (cond (a || b) (done passedOver) (seek start (peaksFrom start n)))
       go true b start n p q = tt
       go false true start n p q = tt
       go false false start n p q = (p, from-bounded start n q)
@@ -44,7 +42,7 @@ module _ (end cumEnd dataSize : ℕ) (near : end < 2 ^ 62) (size : dataSize < 2 
   unfolding attempt
   attempt-extent subtract = go (leb dataSize subtract) (ltb cumEnd ((dataSize - subtract) * 9)) (end - (dataSize - subtract) * 9) (dataSize - subtract)
     where
-      go : (a b : Bool) (start n : ℕ) → extent (cond a (done passedOver) (cond b (done passedOver) (seek start (peaksFrom start n)))) ≤ 0
+      go : (a b : Bool) (start n : ℕ) → extent (cond (a || b) (done passedOver) (seek start (peaksFrom start n))) ≤ 0
       go true b start n = lit≤ tt
       go false true start n = lit≤ tt
       go false false start n = lit≤ tt
@@ -76,63 +74,47 @@ accepted-not-truncated f h (accepted place peaks) = h place peaks
 accepted-not-truncated f h passedOver = tt
 
 module _ (place cumEnd dataSize : ℕ) where
-  end : ℕ
-  end = recordEnd place cumEnd
+  abbrev end : ℕ
+  end = saturatingAdd place cumEnd
 
-  module _ {A : Type 0} (f : ℕ → List Peak → Outcome A) (notTruncated : (p : ℕ) (peaks : List Peak) → NotTruncated (f p peaks)) where
-    -- what is made of accepted peaks
-    call : List ℕ → Outcome A
-    call s = outcome (single 4 end (flatPeaks end cumEnd dataSize) (λ v _. ofAccepted f v)) s
+  abbrev parser : Parser Attempt
+  parser = flatPeaks end cumEnd dataSize
 
-    call-prefix : PrefixProperty call
-    unfolding call
-    call-prefix = prefix-property (single 4 end (flatPeaks end cumEnd dataSize) (λ v _. ofAccepted f v))
+  -- what is made of an attempt
+  abbrev placed : Attempt → Outcome (ℕ × ℕ)
+  placed = ofAccepted (λ p peaks. ok (p, length peaks))
 
-    call-names : Names (λ q. q ≡ 4) call
-    unfolding call
-    call-names = only-part 4 end (flatPeaks end cumEnd dataSize) _ (λ v _. accepted-not-truncated f notTruncated v)
+  abbrev fitted : ℕ → ℕ → Attempt → Outcome (List Peak)
+  fitted m a = ofAccepted (λ _ peaks. pairsIfFit m a peaks)
 
-    call-completes : dataSize < 2 ^ 32 → Completes 4 end call
-    unfolding call
-    call-completes size s isBytes few near =
-        single-completes 4 end (flatPeaks end cumEnd dataSize) (λ v _. ofAccepted f v) (flat-bounded end cumEnd dataSize near size) (λ v _. accepted-not-truncated f notTruncated v)
-        s isBytes few near
+  placed-done : (a : Attempt) → NotTruncated (placed a)
+  placed-done a = accepted-not-truncated (λ p peaks. ok (p, length peaks)) (λ _ _. tt) a
 
-  pub flat-prefix : (m a : ℕ) → PrefixProperty (readFlatPeaks m a place cumEnd dataSize)
-  unfolding readFlatPeaks call end
-  flat-prefix m a = call-prefix (λ _ peaks. pairsIfFit m a peaks) (λ _ peaks. not-truncated-pairs m a peaks)
-
-  pub flat-names : (m a : ℕ) → Names (λ q. q ≡ 4) (readFlatPeaks m a place cumEnd dataSize)
-  unfolding readFlatPeaks call end
-  flat-names m a = call-names (λ _ peaks. pairsIfFit m a peaks) (λ _ peaks. not-truncated-pairs m a peaks)
+  fitted-done : (m n : ℕ) (a : Attempt) → NotTruncated (fitted m n a)
+  fitted-done m n a = accepted-not-truncated (λ _ peaks. pairsIfFit m n peaks) (λ _ peaks. not-truncated-pairs m n peaks) a
 
   pub find-prefix : PrefixProperty (findFlatPeaks place cumEnd dataSize)
-  unfolding findFlatPeaks call end
-  find-prefix = call-prefix placeAndCount (λ _ _. tt)
+  unfolding findFlatPeaks
+  find-prefix = call-prefix 4 end parser placed
 
   pub find-names : Names (λ q. q ≡ 4) (findFlatPeaks place cumEnd dataSize)
-  unfolding findFlatPeaks call end
-  find-names = call-names placeAndCount (λ _ _. tt)
+  unfolding findFlatPeaks
+  find-names = call-names 4 end parser placed placed-done
 
   module _ (size : dataSize < 2 ^ 32) where
-    pub flat-completes : (m a : ℕ) → Completes 4 (recordEnd place cumEnd) (readFlatPeaks m a place cumEnd dataSize)
-    unfolding readFlatPeaks call end
-    flat-completes m a = call-completes (λ _ peaks. pairsIfFit m a peaks) (λ _ peaks. not-truncated-pairs m a peaks) size
+    bounded : end < 2 ^ 62 → Bounded (2 ^ 62) (2 ^ 61) parser
+    bounded near = flat-bounded end cumEnd dataSize near size
 
-    pub find-completes : Completes 4 (recordEnd place cumEnd) (findFlatPeaks place cumEnd dataSize)
-    unfolding findFlatPeaks call end
-    find-completes = call-completes placeAndCount (λ _ _. tt) size
+    pub find-completes : Completes 4 end (findFlatPeaks place cumEnd dataSize)
+    unfolding findFlatPeaks
+    find-completes = call-completes 4 end parser bounded placed placed-done
 
-    pub find-longer : OnLongerBytes outcomeOfPlace (λ s r (_ : Unit {0}). outcomeOfPlace r ≡ findFlatPeaks place cumEnd dataSize s) (λ q. q ≡ 4) (λ _ _. recordEnd place cumEnd < 2 ^ 62)
-    find-longer =
-        plain-longer outcomeOfPlace place-answer-one (findFlatPeaks place cumEnd dataSize) find-prefix (λ q. q ≡ 4) (λ _ _. recordEnd place cumEnd < 2 ^ 62) find-names
-        (one-part 4 (recordEnd place cumEnd) (findFlatPeaks place cumEnd dataSize) find-names find-completes)
+    pub find-longer : OnLongerBytes outcomeOfPlace (λ s r (_ : Unit {0}). outcomeOfPlace r ≡ findFlatPeaks place cumEnd dataSize s) (λ q. q ≡ 4) (λ _ _. end < 2 ^ 62)
+    unfolding findFlatPeaks
+    find-longer = call-longer 4 end parser bounded outcomeOfPlace place-answer-one placed placed-done
 
     pub flat-longer : (mz abundance : List ℕ)
         → OnLongerBytes outcomeOfCount (λ s r (ys : List ℕ × List ℕ). LeftPairs (λ m a. readFlatPeaks m a place cumEnd dataSize s) mz abundance r (ys .0) (ys .1)) (λ q. q ≡ 4)
-        (λ _ _. recordEnd place cumEnd < 2 ^ 62)
-    flat-longer mz abundance =
-        let m = length mz in
-        let a = length abundance in
-        left-longer outcomeOfCount count-one (readFlatPeaks m a place cumEnd dataSize) (flat-prefix m a) (λ q. q ≡ 4) (λ _ _. recordEnd place cumEnd < 2 ^ 62) (flat-names m a)
-        (one-part 4 (recordEnd place cumEnd) (readFlatPeaks m a place cumEnd dataSize) (flat-names m a) (flat-completes m a)) length columns (mz, abundance)
+        (λ _ _. end < 2 ^ 62)
+    unfolding readFlatPeaks
+    flat-longer = pairs-longer 4 end parser bounded fitted fitted-done

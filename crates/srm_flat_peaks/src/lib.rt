@@ -6,8 +6,8 @@ ghost use lib.Ieee.{binary32, ofBits};
 ghost use Rattle.parser.specs.Parser.{parse};
 ghost use Rattle.lists.specs.Left.{LeftPairs};
 ghost use Rattle.peaks.specs.Peaks.{outcomeOfPlace};
-ghost use Rattle.srm_flat_peaks.specs.Flat.{plausible, attempt, attempts, readFlatPeaks, findFlatPeaks};
-ghost use Rattle.srm_flat_peaks.specs.Internal.{judged};
+ghost use Rattle.srm_flat_peaks.specs.Flat.{isPlausible, attempt, attempts, readFlatPeaks, findFlatPeaks};
+ghost use Rattle.srm_flat_peaks.specs.Internal.{attemptAnswer};
 use float_bits::widened;
 use peaks::PeaksPlace;
 use peaks::hand_out;
@@ -20,50 +20,50 @@ use refusal::Part;
 use refusal::Refusal;
 
 // What an attempt comes to.
-enum Judged {
+enum AttemptAnswer {
     Accepted { place: u64, count: u64 },
     PassedOver,
     RanOut,
 }
 
 // Whether an f32 is a plausible m/z: zero, or between 10 and 10,000, both excluded.
-fn plausible(bits: u32) -> bool
-    ensures { λ r. ⌜ r ≡ plausible (ofBits binary32 bits) ⌝ }
+fn is_plausible(bits: u32) -> bool
+    ensures { λ r. ⌜ r ≡ isPlausible (ofBits binary32 bits) ⌝ }
 {
     let mz = widened(bits);
     mz == 0.0 || (mz > 10.0 && mz < 10000.0)
 }
 
-// An attempt at data_size - subtract peaks, of a record that ends at `end`. Peaks that are there are judged by the first.
-fn judge(run: &[u8], end: u64, cum_end: u64, data_size: u32, subtract: u32) -> Judged
-    ensures { λ r. ⌜ r ≡ judged (parse (attempt end «cum_end» «data_size» subtract) (now (run .entry)) end) ⌝ }
+// An attempt at data_size - subtract peaks, of a record that ends at `end`. Peaks that are there are attemptAnswer by the first.
+fn attempt_at(run: &[u8], end: u64, cum_end: u64, data_size: u32, subtract: u32) -> AttemptAnswer
+    ensures { λ r. ⌜ r ≡ attemptAnswer (parse (attempt end «cum_end» «data_size» subtract) (now (run .entry)) end) ⌝ }
 {
     if data_size <= subtract {
-        return Judged::PassedOver;
+        return AttemptAnswer::PassedOver;
     }
     let count = (data_size - subtract) as u64;
     let section = count * 9;
     if section > cum_end {
-        return Judged::PassedOver;
+        return AttemptAnswer::PassedOver;
     }
     let place = saturating_sub(end, section);
     if count * 8 > remaining(run, place) {
-        return Judged::RanOut;
+        return AttemptAnswer::RanOut;
     }
-    if plausible(u32_at(run, place)) {
-        return Judged::Accepted { place, count };
+    if is_plausible(u32_at(run, place)) {
+        return AttemptAnswer::Accepted { place, count };
     }
-    Judged::PassedOver
+    AttemptAnswer::PassedOver
 }
 
 // Both attempts. The second is made where the first was passed over, not where it ran out.
-fn judge_attempts(run: &[u8], end: u64, cum_end: u64, data_size: u32) -> Judged
-    ensures { λ r. ⌜ r ≡ judged (parse (attempts end «cum_end» «data_size») (now (run .entry)) end) ⌝ }
+fn attempts_at(run: &[u8], end: u64, cum_end: u64, data_size: u32) -> AttemptAnswer
+    ensures { λ r. ⌜ r ≡ attemptAnswer (parse (attempts end «cum_end» «data_size») (now (run .entry)) end) ⌝ }
 {
-    match judge(run, end, cum_end, data_size, 1) {
-        Judged::Accepted { place, count } => Judged::Accepted { place, count },
-        Judged::RanOut => Judged::RanOut,
-        Judged::PassedOver => judge(run, end, cum_end, data_size, 2),
+    match attempt_at(run, end, cum_end, data_size, 1) {
+        AttemptAnswer::Accepted { place, count } => AttemptAnswer::Accepted { place, count },
+        AttemptAnswer::RanOut => AttemptAnswer::RanOut,
+        AttemptAnswer::PassedOver => attempt_at(run, end, cum_end, data_size, 2),
     }
 }
 
@@ -78,10 +78,10 @@ pub fn find_flat_peaks(run: &[u8], data: u64, cum_end: u64, data_size: u32) -> P
             count: 0,
         };
     }
-    match judge_attempts(run, end, cum_end, data_size) {
-        Judged::Accepted { place, count } => PeaksPlace::At { place, count },
-        Judged::PassedOver => PeaksPlace::Refused(Refusal::UnrecognizedScanRecord),
-        Judged::RanOut => PeaksPlace::Refused(Refusal::Short(Part::Data)),
+    match attempts_at(run, end, cum_end, data_size) {
+        AttemptAnswer::Accepted { place, count } => PeaksPlace::At { place, count },
+        AttemptAnswer::PassedOver => PeaksPlace::Refused(Refusal::UnrecognizedScanRecord),
+        AttemptAnswer::RanOut => PeaksPlace::Refused(Refusal::Short(Part::Data)),
     }
 }
 

@@ -1,45 +1,50 @@
 -- What a scan answers, by its count of channels.
 use mathlib.Core.Path.{_≡_, refl, ap, sym, _∙_}
 use Prim.Native.Nat.{ℕ, _+_, _*_}
-use native.Mathlib.Omega.{arith}
 use mathlib.Core.Bool.{false}
 use mathlib.Core.List.{List, []}
 use lib.ListN.{length}
-use Rattle.refusal.specs.Outcome.{Outcome, ok, refused, andThen}
+use Rattle.refusal.specs.Outcome.{Outcome, ok, refused, onOk, andThen}
+use Rattle.refusal.proofs.Outcomes.{made-of, refused-of}
 use Rattle.lists.specs.Left.{pairsIfFit}
 use Rattle.lists.proofs.Laws.{each-none}
+use Rattle.parser.specs.Parser.{saturatingAdd}
 use Rattle.parser.specs.Call.{outcome, single}
 use Rattle.peaks.specs.Peaks.{Peak, peaksAt}
 use Rattle.peaks.proofs.Columns.{length-peaks}
-use Rattle.srm_scan.specs.Scan.{start, scan, peaks, readScan, findPeaks, windows, readWindows}
+use Rattle.srm_scan.specs.Scan.{scan, peaks, readScan, findPeaks, windows, readWindows}
 use Rattle.srm_scan.specs.Internal.{channels, windowsAt}
 use Rattle.srm_scan.proofs.Tables.{peaks-sized, windows-sized, peaks-are, windows-are}
 use Rattle.srm_scan.proofs.Counting.{by-channels}
 
-module _ (place offset : ℕ) (s : List ℕ) (at : ℕ) (is : at ≡ start place offset) where
-  -- the peaks
-  list : ℕ → List Peak
+module _ (place offset : ℕ) (s : List ℕ) (at : ℕ) (is : at ≡ saturatingAdd place offset) where
+  -- the peaks of n channels, the place of the first, and n
+  abbrev list : ℕ → List Peak
   list n = peaksAt false 12 s (at + 36 + n * 8) n
 
+  abbrev placed : ℕ → ℕ × ℕ
+  placed n = (at + 36 + n * 8, n)
+
   list-none : list 0 ≡ []
-  unfolding list peaksAt
+  unfolding peaksAt
   list-none = sym (each-none _)
 
-  length-list : (n : ℕ) → length (list n) ≡ n
-  unfolding list
-  length-list n = length-peaks false 12 s (at + 36 + n * 8) n
-
-  found-by : findPeaks place offset s ≡ andThen (channels 20 s at) (λ n. ok (at + 36 + length (list n) * 8, length (list n)))
-  unfolding findPeaks list
-  found-by = rw (← is) (by-channels 20 peaks peaks-sized s at list (peaks-are s at) list-none _)
-
   then-by : {A : Type 0} (follow : List Peak → Outcome A)
-      → outcome (single 4 (start place offset) (scan peaks) (λ ps _. follow ps)) s ≡ andThen (channels 20 s at) (λ n. follow (list n))
-  unfolding list
-  then-by follow = rw (← is) (by-channels 20 peaks peaks-sized s at list (peaks-are s at) list-none _)
+      → outcome (single 4 (saturatingAdd place offset) (scan peaks) (λ ps _. follow ps)) s ≡ andThen (channels 20 s at) (λ n. follow (list n))
+  then-by follow = rw (← is) (by-channels 20 peaks peaks-sized s at list (peaks-are s at) list-none follow)
+
+  found-by : findPeaks place offset s ≡ onOk placed (channels 20 s at)
+  unfolding findPeaks
+  found-by =
+      rw (← is) (by-channels 20 peaks peaks-sized s at list (peaks-are s at) list-none (λ ps. ok (at + 36 + length ps * 8, length ps)))
+      ∙ go (channels 20 s at)
+    where
+      go : (o : Outcome ℕ) → andThen o (λ n. ok (at + 36 + length (list n) * 8, length (list n))) ≡ onOk placed o
+      go (ok n) = rw (length-peaks false 12 s (at + 36 + n * 8) n)
+      go (refused number carries) = refl
 
   pub found : (n : ℕ) → ok n ≡ channels 20 s at → ok (at + 36 + n * 8, n) ≡ findPeaks place offset s
-  found n e = rw (found-by, ← e, length-list n)
+  found n e = rw (found-by, ← e)
 
   pub find-refused : {number : ℕ} {carries : List ℕ} → refused number carries ≡ channels 20 s at → refused number carries ≡ findPeaks place offset s
   find-refused e = rw (found-by, ← e)
@@ -58,39 +63,22 @@ module _ (place offset : ℕ) (s : List ℕ) (at : ℕ) (is : at ≡ start place
 
 -- whatever follows of peaks that were found, or of a refusal
 module _ {A : Type 0} (follow : List Peak → Outcome A) (place offset : ℕ) (s : List ℕ) where
-  at : ℕ
-  at = start place offset
+  abbrev at : ℕ
+  at = saturatingAdd place offset
 
-  pub then-found : (p n : ℕ) → ok (p, n) ≡ findPeaks place offset s → follow (peaksAt false 12 s p n) ≡ outcome (single 4 (start place offset) (scan peaks) (λ ps _. follow ps)) s
-  unfolding at list
-  then-found p n e = go (channels 20 s at) refl
+  pub then-found : (p n : ℕ) → ok (p, n) ≡ findPeaks place offset s → follow (peaksAt false 12 s p n) ≡ outcome (single 4 (saturatingAdd place offset) (scan peaks) (λ ps _. follow ps)) s
+  then-found p n e =
+      let m = made-of (placed place offset s at refl) (channels 20 s at) (e ∙ found-by place offset s at refl) in
+      by-count (m .value) p n (m .is) (ap (λ (z : ℕ × ℕ). z .0) (m .made)) (ap (λ (z : ℕ × ℕ). z .1) (m .made))
     where
-      go : (o : Outcome ℕ) → channels 20 s at ≡ o → follow (peaksAt false 12 s p n) ≡ outcome (single 4 (start place offset) (scan peaks) (λ ps _. follow ps)) s
-      go (ok k) h =
-          let c = e ∙ sym (found place offset s at refl k (sym h)) in
-          let both : _≡_ {A = ℕ × ℕ} (p, n) (at + 36 + k * 8, k) = cc in
-          let here : p ≡ at + 36 + k * 8 = ap (λ (z : ℕ × ℕ). z .0) both in
-          let count : n ≡ k = ap (λ (z : ℕ × ℕ). z .1) both in
-          rw (then-by place offset s at refl follow, h, here, count)
-      go (refused number carries) h =
-          let c = e ∙ sym (find-refused place offset s at refl (sym h)) in
-          let z : _≡_ {A = ℕ} 0 1 = cc in
-          absurd (omega arith)
+      by-count : (k p n : ℕ) → ok k ≡ channels 20 s at → p ≡ at + 36 + k * 8 → n ≡ k
+          → follow (peaksAt false 12 s p n) ≡ outcome (single 4 (saturatingAdd place offset) (scan peaks) (λ ps _. follow ps)) s
+      by-count k p n e here count = rw (then-by place offset s at refl follow, ← e, here, count)
 
-  pub then-refused : {number : ℕ} {carries : List ℕ} → refused number carries ≡ findPeaks place offset s → refused number carries ≡ outcome (single 4 (start place offset) (scan peaks) (λ ps _. follow ps)) s
-  unfolding at
-  then-refused {number} {carries} e = go (channels 20 s at) refl
-    where
-      go : (o : Outcome ℕ) → channels 20 s at ≡ o → refused number carries ≡ outcome (single 4 (start place offset) (scan peaks) (λ ps _. follow ps)) s
-      go (ok k) h =
-          let c = e ∙ sym (found place offset s at refl k (sym h)) in
-          let z : _≡_ {A = ℕ} 0 1 = cc in
-          absurd (omega arith)
-      go (refused x y) h =
-          let c = e ∙ sym (find-refused place offset s at refl (sym h)) in
-          let same : number ≡ x = cc in
-          let carried : carries ≡ y = cc in
-          rw (same, carried, then-by place offset s at refl follow, h)
+  pub then-refused : {number : ℕ} {carries : List ℕ} → refused number carries ≡ findPeaks place offset s → refused number carries ≡ outcome (single 4 (saturatingAdd place offset) (scan peaks) (λ ps _. follow ps)) s
+  then-refused e =
+      let r = refused-of (placed place offset s at refl) (channels 20 s at) (e ∙ found-by place offset s at refl) in
+      rw (then-by place offset s at refl follow, ← r)
 
 module _ (place offset : ℕ) (s : List ℕ) (m a : ℕ) where
   pub read-found : (p n : ℕ) → ok (p, n) ≡ findPeaks place offset s → pairsIfFit m a (peaksAt false 12 s p n) ≡ readScan m a place offset s

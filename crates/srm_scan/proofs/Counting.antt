@@ -12,7 +12,7 @@ use Rattle.parser.specs.Parser.{Parser, done, parsed, bytes, littleEndian, left
 use Rattle.parser.specs.Call.{onward, outcome, single}
 use Rattle.parser.specs.Internal.{Sized, value}
 use Rattle.parser.proofs.Fixed.{parse-sized, parse-stage, sized-word}
-use Rattle.srm_scan.specs.Scan.{afterCount, scan}
+use Rattle.srm_scan.specs.Scan.{scan}
 use Rattle.srm_scan.specs.Internal.{channels}
 use Rattle.srm_scan.proofs.Tables.{skipped-sized}
 
@@ -63,10 +63,10 @@ module _ {A : Type 0} (size : ℕ) (table : ℕ → Parser (List A)) (sized : (n
       (cond (eqb (littleEndian (bytes s at 4)) 0) (parsed [] (at + 4))
       (within (leb (28 + littleEndian (bytes s at 4) * size) (left s (at + 4)))
       (parsed (value (table (littleEndian (bytes s at 4))) s (at + 4) 28) (at + 4 + (28 + littleEndian (bytes s at 4) * size)))))
-  unfolding scan afterCount
+  unfolding scan
   parse-scan =
       let place : at + 0 ≡ at = add-zero at in
-      parse-stage 4 (word 4) (afterCount table) (sized-word 4) s at ∙ rw (place, after-by (eqb (littleEndian (bytes s at 4)) 0) (littleEndian (bytes s at 4)))
+      parse-stage 4 (word 4) (λ n. cond (eqb n 0) (done []) (skip 28 >> table n)) (sized-word 4) s at ∙ rw (place, after-by (eqb (littleEndian (bytes s at 4)) 0) (littleEndian (bytes s at 4)))
 
   module _ {B : Type 0} (list : ℕ → List A) (are : (n : ℕ) → value (table n) s (at + 4) 28 ≡ list n) (empty : list 0 ≡ []) (g : List A → Outcome B) where
     by-tests : (a b c : Bool) (n p q : ℕ)

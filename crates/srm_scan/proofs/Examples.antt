@@ -5,11 +5,11 @@ use mathlib.Core.List.{List, [], _∷_, _++_}
 use lib.Ieee.{ofBits, toBits}
 use lib.ListN.{take, replicate}
 use Rattle.refusal.specs.Outcome.{ok, refused}
-use Rattle.parser.specs.Parser.{parse, repeat}
+use Rattle.parser.specs.Parser.{parse, repeat, counted}
 use Rattle.parser.specs.Call.{outcome}
 use Rattle.lists.specs.Left.{pairsIfFit}
 use Rattle.peaks.specs.Peaks.{peak}
-use Rattle.srm_scan.specs.Scan.{afterCount, scan, channel, peaks, readScan, findPeaks, window, windows, readWindows}
+use Rattle.srm_scan.specs.Scan.{scan, channel, peaks, readScan, findPeaks, window, windows, readWindows}
 
 -- a byte, then a scan: one channel; its window of 10 to 100; its number 7, 500.03125 and 2.0
 abbrev one : List ℕ
@@ -23,7 +23,7 @@ peaks-of-one :
     × (readScan 1 0 0 1 one ≡ refused 8 [])
     × (readScan 1 1 0 1 (take 52 one) ≡ refused 1 (4 ∷ []))
     × (readScan 0 0 1 1 (0 ∷ 0 ∷ 0 ∷ 0 ∷ 0 ∷ 0 ∷ []) ≡ ok [])
-unfolding readScan findPeaks outcome parse scan afterCount peaks channel repeat peak pairsIfFit ofBits toBits
+unfolding readScan findPeaks outcome parse scan peaks channel counted repeat peak pairsIfFit ofBits toBits
 peaks-of-one = (refl, refl, refl, refl, refl)
 
 windows-of-one :
@@ -31,5 +31,5 @@ windows-of-one :
     × (readWindows 1 1 0 1 (take 41 one) ≡ ok ((0x4120_0000, 0x42c8_0000) ∷ []))
     × (readWindows 1 1 0 1 (take 40 one) ≡ refused 1 (4 ∷ []))
     × (readWindows 0 1 0 1 one ≡ refused 8 [])
-unfolding readWindows outcome parse scan afterCount windows window repeat pairsIfFit
+unfolding readWindows outcome parse scan windows window counted repeat pairsIfFit
 windows-of-one = (refl, refl, refl, refl)

@@ -7,20 +7,18 @@ use mathlib.Core.Bool.{Bool, true, false, cond}
 use mathlib.Core.List.{List, []}
 use lib.Dec.{eqb, lit≤}
 use lib.ListN.{length}
-use Rattle.refusal.specs.Outcome.{ok}
-use Rattle.parser.specs.Parser.{Parser, done, skip, _>>_}
-use Rattle.parser.specs.Call.{single}
+use Rattle.refusal.specs.Outcome.{Outcome, ok}
+use Rattle.parser.specs.Parser.{Parser, done, skip, _>>_, saturatingAdd}
 use Rattle.parser.specs.Internal.{Sized}
 use Rattle.parser.specs.LongerBytes.{OnLongerBytes, PrefixProperty, Names, Completes}
 use Rattle.parser.proofs.Completion.{Bounded, extent, extent-sized, bounded-sized, bounded-word, bounded-more}
-use Rattle.parser.proofs.Calls.{not-truncated-pairs, prefix-property, only-part, single-completes}
-use Rattle.parser.proofs.OnLongerBytes.{one-part, left-longer, plain-longer}
+use Rattle.parser.proofs.Calls.{not-truncated-pairs}
+use Rattle.peaks.proofs.OnePart.{call-prefix, call-names, call-completes, call-longer, pairs-longer}
 use Rattle.refusal.specs.Number.{outcomeOfCount}
-use Rattle.refusal.proofs.OneAnswer.{count-one}
-use Rattle.lists.specs.Left.{columns, pairsIfFit, LeftPairs}
-use Rattle.peaks.specs.Peaks.{outcomeOfPlace}
+use Rattle.lists.specs.Left.{pairsIfFit, LeftPairs}
+use Rattle.peaks.specs.Peaks.{Peak, outcomeOfPlace}
 use Rattle.peaks.proofs.OneAnswer.{place-answer-one}
-use Rattle.srm_scan.specs.Scan.{start, afterCount, scan, peaks, readScan, findPeaks, windows, readWindows}
+use Rattle.srm_scan.specs.Scan.{scan, peaks, readScan, findPeaks, windows, readWindows}
 use Rattle.srm_scan.proofs.Tables.{skipped-sized, peaks-sized, windows-sized}
 
 -- a scan asks for at most 4 + 2^37 bytes
@@ -38,10 +36,10 @@ module _ {A : Type 0} (size : ℕ) (few : size ≤ 20) (table : ℕ → Parser (
       bounded-sized (2 ^ 62) (28 + n * size) (4 + 2 ^ 37) (skip 28 >> table n) (omega (arith, table-most n h)) (skipped-sized size table sized n)
 
   scan-bounded : Bounded (2 ^ 62) (2 ^ 61) (scan table)
-  unfolding scan afterCount
+  unfolding scan
   scan-bounded =
       bounded-more (2 ^ 62) (4 + 2 ^ 37) (2 ^ 61) (scan table) (lit≤ tt)
-      (bounded-word (2 ^ 62) 4 (2 ^ 37) (afterCount table) (λ n h. either-extent (eqb n 0) n h) (λ n h. either-bounded (eqb n 0) n h))
+      (bounded-word (2 ^ 62) 4 (2 ^ 37) (λ n. cond (eqb n 0) (done []) (skip 28 >> table n)) (λ n h. either-extent (eqb n 0) n h) (λ n h. either-bounded (eqb n 0) n h))
 
 pub peaks-bounded : Bounded (2 ^ 62) (2 ^ 61) (scan peaks)
 peaks-bounded = scan-bounded 20 (lit≤ tt) peaks peaks-sized
@@ -50,61 +48,34 @@ windows-bounded : Bounded (2 ^ 62) (2 ^ 61) (scan windows)
 windows-bounded = scan-bounded 8 (lit≤ tt) windows windows-sized
 
 module _ (place offset : ℕ) where
+  abbrev at : ℕ
+  at = saturatingAdd place offset
+
+  abbrev placed : List Peak → Outcome (ℕ × ℕ)
+  placed ps = ok (at + 36 + length ps * 8, length ps)
+
   pub find-prefix : PrefixProperty (findPeaks place offset)
   unfolding findPeaks
-  find-prefix = prefix-property (single 4 (start place offset) (scan peaks) (λ ps _. ok (start place offset + 36 + length ps * 8, length ps)))
+  find-prefix = call-prefix 4 at (scan peaks) placed
 
   pub find-names : Names (λ q. q ≡ 4) (findPeaks place offset)
   unfolding findPeaks
-  find-names = only-part 4 (start place offset) (scan peaks) _ (λ _ _. tt)
+  find-names = call-names 4 at (scan peaks) placed (λ _. tt)
 
-  pub find-completes : Completes 4 (start place offset) (findPeaks place offset)
+  pub find-completes : Completes 4 at (findPeaks place offset)
   unfolding findPeaks
-  find-completes =
-      single-completes 4 (start place offset) (scan peaks) (λ ps _. ok (start place offset + 36 + length ps * 8, length ps)) peaks-bounded (λ _ _. tt)
+  find-completes = call-completes 4 at (scan peaks) (λ _. peaks-bounded) placed (λ _. tt)
 
-  pub find-longer : OnLongerBytes outcomeOfPlace (λ s r (_ : Unit {0}). outcomeOfPlace r ≡ findPeaks place offset s) (λ q. q ≡ 4) (λ _ _. start place offset < 2 ^ 62)
-  find-longer =
-      plain-longer outcomeOfPlace place-answer-one (findPeaks place offset) find-prefix (λ q. q ≡ 4) (λ _ _. start place offset < 2 ^ 62) find-names
-      (one-part 4 (start place offset) (findPeaks place offset) find-names find-completes)
-
-  module _ (m a : ℕ) where
-    pub srm-prefix : PrefixProperty (readScan m a place offset)
-    unfolding readScan
-    srm-prefix = prefix-property (single 4 (start place offset) (scan peaks) (λ ps _. pairsIfFit m a ps))
-
-    pub srm-names : Names (λ q. q ≡ 4) (readScan m a place offset)
-    unfolding readScan
-    srm-names = only-part 4 (start place offset) (scan peaks) _ (λ ps _. not-truncated-pairs m a ps)
-
-    pub srm-completes : Completes 4 (start place offset) (readScan m a place offset)
-    unfolding readScan
-    srm-completes = single-completes 4 (start place offset) (scan peaks) (λ ps _. pairsIfFit m a ps) peaks-bounded (λ ps _. not-truncated-pairs m a ps)
-
-    pub windows-prefix : PrefixProperty (readWindows m a place offset)
-    unfolding readWindows
-    windows-prefix = prefix-property (single 4 (start place offset) (scan windows) (λ ws _. pairsIfFit m a ws))
-
-    pub windows-names : Names (λ q. q ≡ 4) (readWindows m a place offset)
-    unfolding readWindows
-    windows-names = only-part 4 (start place offset) (scan windows) _ (λ ws _. not-truncated-pairs m a ws)
-
-    pub windows-completes : Completes 4 (start place offset) (readWindows m a place offset)
-    unfolding readWindows
-    windows-completes = single-completes 4 (start place offset) (scan windows) (λ ws _. pairsIfFit m a ws) windows-bounded (λ ws _. not-truncated-pairs m a ws)
+  pub find-longer : OnLongerBytes outcomeOfPlace (λ s r (_ : Unit {0}). outcomeOfPlace r ≡ findPeaks place offset s) (λ q. q ≡ 4) (λ _ _. at < 2 ^ 62)
+  unfolding findPeaks
+  find-longer = call-longer 4 at (scan peaks) (λ _. peaks-bounded) outcomeOfPlace place-answer-one placed (λ _. tt)
 
   pub srm-longer : (mz abundance : List ℕ)
-      → OnLongerBytes outcomeOfCount (λ s r (ys : List ℕ × List ℕ). LeftPairs (λ m a. readScan m a place offset s) mz abundance r (ys .0) (ys .1)) (λ q. q ≡ 4) (λ _ _. start place offset < 2 ^ 62)
-  srm-longer mz abundance =
-      let m = length mz in
-      let a = length abundance in
-      left-longer outcomeOfCount count-one (readScan m a place offset) (srm-prefix m a) (λ q. q ≡ 4) (λ _ _. start place offset < 2 ^ 62) (srm-names m a)
-      (one-part 4 (start place offset) (readScan m a place offset) (srm-names m a) (srm-completes m a)) length columns (mz, abundance)
+      → OnLongerBytes outcomeOfCount (λ s r (ys : List ℕ × List ℕ). LeftPairs (λ m a. readScan m a place offset s) mz abundance r (ys .0) (ys .1)) (λ q. q ≡ 4) (λ _ _. at < 2 ^ 62)
+  unfolding readScan
+  srm-longer = pairs-longer 4 at (scan peaks) (λ _. peaks-bounded) pairsIfFit not-truncated-pairs
 
   pub windows-longer : (low high : List ℕ)
-      → OnLongerBytes outcomeOfCount (λ s r (ys : List ℕ × List ℕ). LeftPairs (λ l h. readWindows l h place offset s) low high r (ys .0) (ys .1)) (λ q. q ≡ 4) (λ _ _. start place offset < 2 ^ 62)
-  windows-longer low high =
-      let l = length low in
-      let h = length high in
-      left-longer outcomeOfCount count-one (readWindows l h place offset) (windows-prefix l h) (λ q. q ≡ 4) (λ _ _. start place offset < 2 ^ 62) (windows-names l h)
-      (one-part 4 (start place offset) (readWindows l h place offset) (windows-names l h) (windows-completes l h)) length columns (low, high)
+      → OnLongerBytes outcomeOfCount (λ s r (ys : List ℕ × List ℕ). LeftPairs (λ l h. readWindows l h place offset s) low high r (ys .0) (ys .1)) (λ q. q ≡ 4) (λ _ _. at < 2 ^ 62)
+  unfolding readWindows
+  windows-longer = pairs-longer 4 at (scan windows) (λ _. windows-bounded) pairsIfFit not-truncated-pairs

@@ -5,7 +5,7 @@ use native.Mathlib.Omega.{arith}
 use mathlib.Core.Bool.{false}
 use mathlib.Core.List.{List}
 use Rattle.lists.proofs.Laws.{each-same}
-use Rattle.parser.specs.Parser.{Parser, ahead, skip, _>>_, repeat}
+use Rattle.parser.specs.Parser.{Parser, skip, _>>_, counted}
 use Rattle.parser.specs.Internal.{Sized, value}
 use Rattle.parser.proofs.Fixed.{sized-raw, sized-bind, sized-counted, value-each}
 use Rattle.peaks.specs.Peaks.{peak, peaksAt}
@@ -21,14 +21,14 @@ unfolding window
 window-sized = λ _ _. tt
 
 pub peaks-sized : (n : ℕ) → Sized (n * 20) (peaks n)
-unfolding peaks
+unfolding peaks counted
 peaks-sized n =
     let e : n * 8 + n * 12 ≡ n * 20 = omega arith in
     subst (λ (k : ℕ). Sized k (peaks n)) e
-    (sized-bind (n * 8) (n * 12) (skip (n * 8)) (λ _. ahead (n * 12) (repeat n channel)) (sized-raw (n * 8)) (λ _. sized-counted 12 channel channel-sized n))
+    (sized-bind (n * 8) (n * 12) (skip (n * 8)) (λ _. counted n 12 channel) (sized-raw (n * 8)) (λ _. sized-counted 12 channel channel-sized n))
 
 pub windows-sized : (n : ℕ) → Sized (n * 8) (windows n)
-unfolding windows
+unfolding windows counted
 windows-sized n = sized-counted 8 window window-sized n
 
 -- a table, and the bytes before it
@@ -38,17 +38,17 @@ skipped-sized size table sized n = sized-bind 28 (n * size) (skip 28) (λ _. tab
 -- of a scan at a place, after its count of four bytes and the 28 that are passed over
 module _ (s : List ℕ) (at n : ℕ) where
   pub peaks-are : value (peaks n) s (at + 4) 28 ≡ peaksAt false 12 s (at + 36 + n * 8) n
-  unfolding peaks peaksAt channel peak
+  unfolding peaks counted peaksAt channel peak
   peaks-are =
       let place : (i : ℕ) → at + 4 + (28 + n * 8 + i * 12 + 4) ≡ at + 36 + n * 8 + i * 12 = λ i. omega arith in
-      let afterCount : (i : ℕ) → at + 4 + (28 + n * 8 + i * 12 + 4 + 4) ≡ at + 36 + n * 8 + i * 12 + 4 = λ i. omega arith in
+      let beyond : (i : ℕ) → at + 4 + (28 + n * 8 + i * 12 + 4 + 4) ≡ at + 36 + n * 8 + i * 12 + 4 = λ i. omega arith in
       value-each 12 channel channel-sized n s (at + 4) (28 + n * 8)
-      ∙ each-same _ _ n (λ i. rw (place i, afterCount i))
+      ∙ each-same _ _ n (λ i. rw (place i, beyond i))
 
   pub windows-are : value (windows n) s (at + 4) 28 ≡ windowsAt s (at + 32) n
-  unfolding windows windowsAt window
+  unfolding windows counted windowsAt window
   windows-are =
       let place : (i : ℕ) → at + 4 + (28 + i * 8) ≡ at + 32 + i * 8 = λ i. omega arith in
-      let afterCount : (i : ℕ) → at + 4 + (28 + i * 8 + 4) ≡ at + 32 + i * 8 + 4 = λ i. omega arith in
+      let beyond : (i : ℕ) → at + 4 + (28 + i * 8 + 4) ≡ at + 32 + i * 8 + 4 = λ i. omega arith in
       value-each 8 window window-sized n s (at + 4) 28
-      ∙ each-same _ _ n (λ i. rw (place i, afterCount i))
+      ∙ each-same _ _ n (λ i. rw (place i, beyond i))

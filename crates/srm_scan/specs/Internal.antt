@@ -6,7 +6,6 @@ use lib.Dec.{leb, eqb}
 use Rattle.refusal.specs.Outcome.{Outcome, ok, ranOut}
 use Rattle.lists.specs.Written.{each}
 use Rattle.parser.specs.Parser.{bytes, littleEndian, left, wordAt}
-use Rattle.srm_scan.specs.Scan.{Window}
 
 -- how many channels the scan at a place has, where its table takes so many bytes for each
 unfoldable pub channels : ℕ → List ℕ → ℕ → Outcome ℕ
@@ -16,5 +15,5 @@ channels size s at =
     (cond (eqb n 0) (ok 0) (cond (leb (28 + n * size) (left s (at + 4))) (ok n) (ranOut 4)))
     (ranOut 4)
 
-unfoldable pub windowsAt : List ℕ → ℕ → ℕ → List Window
+unfoldable pub windowsAt : List ℕ → ℕ → ℕ → List (ℕ × ℕ)
 windowsAt s at n = each (λ i. (wordAt s (at + i * 8) 4, wordAt s (at + i * 8 + 4) 4)) n

@@ -6,7 +6,8 @@ use mathlib.Core.List.{List, [], _∷_, _++_}
 use Prim.Native.Nat.{ℕ}
 use lib.Ieee.{Float, nan, inf, fin, ofBits, ofInt, round, sub, lt, le}
 use lib.ListN.{length}
-use Rattle.srm_transition.specs.First.{firstOf}
+use Rattle.lists.specs.Written.{each}
+use Rattle.srm_transition.specs.Places.{placesWhere}
 use Rattle.srm_transition.specs.Transition.{notFar, isNear, v63Test, searchV63Transition, eventTest, flatv66EventTransition}
 use Rattle.srm_transition.specs.declared.TransitionAnswer.the-variants.{Found}
 use Rattle.srm_transition.specs.declared.EventTransitionAnswer.the-variants.{Found as FoundEvent}
@@ -26,7 +27,7 @@ fewest-41 : length method ≡ 41
 fewest-41 = refl
 
 pub found-in-41 : searchV63Transition (whole 100) method ≡ Found (record { place = 8; q1 = 0x4049_0000_0000_0000; «q3_width» = 0x3f84_7ae1_47ae_147b; «collision_energy» = 0x4072_c000_0000_0000 })
-unfolding searchV63Transition firstOf v63Test ofBits ofInt round sub lt le
+unfolding searchV63Transition placesWhere each v63Test ofBits ofInt round sub lt le
 found-in-41 = refl
 
 -- event 7, 4 bytes, Q1 500, the window 99.9375 to 100, and one byte more
@@ -42,7 +43,7 @@ fewest-33 : length stream ≡ 33
 fewest-33 = refl
 
 pub found-in-33 : flatv66EventTransition 7 (whole 100) stream ≡ FoundEvent (record { place = 24; q1 = 0x407f_4000_0000_0000 })
-unfolding flatv66EventTransition firstOf eventTest ofBits ofInt round sub lt le
+unfolding flatv66EventTransition placesWhere each eventTest ofBits ofInt round sub lt le
 found-in-33 = refl
 
 -- ---- the edge, and NaNs

@@ -1,5 +1,5 @@
 pub mod Constants
-pub mod Searches
 pub mod Local
+pub mod Places
 pub mod LongerBytes
 pub mod Examples

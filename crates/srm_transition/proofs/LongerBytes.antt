@@ -1,44 +1,29 @@
 -- What a transition search has found it finds in all longer bytes; and the fewest bytes that can hold a find.
 use mathlib.Core.Path.{_≡_, refl, sym, _∙_}
-use mathlib.Core.Logic.{⊎-elim}
-use mathlib.Core.Bool.{Bool, true, false}
-use mathlib.Core.List.{List, _++_}
-use Prim.Native.Nat.{ℕ, zero, suc, _+_, _-_, _≤_, _<_}
+use mathlib.Core.Bool.{Bool}
+use mathlib.Core.List.{List, [], _∷_, _++_}
+use Prim.Native.Nat.{ℕ, _+_, _-_, _<_}
 use native.Mathlib.Omega.{arith}
 use lib.Ieee.{Float}
-use lib.ListN.{length, length-append}
-use Rattle.lists.proofs.Cases.{bool-cases}
-use Rattle.srm_transition.specs.First.{firstOf, first}
+use lib.ListN.{length}
+use Rattle.srm_transition.specs.Places.{firstOr}
 use Rattle.srm_transition.specs.Transition.{v63Test, v63At, searchV63Transition, eventTest, eventAt, flatv66EventTransition}
 use Rattle.srm_transition.specs.LongerBytes.{FoundStays}
 use Rattle.srm_transition.specs.declared.TransitionAnswer.the-variants.{None, Found}
 use Rattle.srm_transition.specs.declared.EventTransitionAnswer.the-variants.{None as NoEvent, Found as FoundEvent}
 use Rattle.srm_transition.proofs.Local.{Local, le-there}
-use Rattle.srm_transition.proofs.Searches.{first-none}
+use Rattle.srm_transition.proofs.Places.{valuesIn, values-longer, first-none}
 
 -- ---- every search
-module _ {A : Type 0} (none : A) (from beyond : ℕ) (test : List ℕ → ℕ → Bool) (found : List ℕ → ℕ → A) where
-  -- the search in the bytes s, at the places from `from` on that have `after` bytes after them and one more
-  abbrev pub searched : List ℕ → A
-  searched s = first (test s) (found s) none from (length s - beyond)
+first-stays : {A : Type 0} (none : A) (xs more ys : List A) → ys ≡ xs ++ more → (firstOr none xs ≡ none → ⊥) → firstOr none ys ≡ firstOr none xs
+first-stays none [] more ys e some = absurd (some refl)
+first-stays none (x ∷ xs) more ys e some = rw e
 
-  module _ (byTest : Local from beyond test) (byFound : Local from beyond found) (s t : List ℕ) where
-    stays-from : (n m at : ℕ) → from ≤ at → n ≤ m → n ≤ length s - beyond - at → (firstOf (test s) (found s) none at n ≡ none → ⊥)
-        → firstOf (test (s ++ t)) (found (s ++ t)) none at m ≡ firstOf (test s) (found s) none at n
-    unfolding firstOf
-    stays-from zero m at f l b some = absurd (some refl)
-    stays-from (suc n) zero at f l b some = absurd (omega arith)
-    stays-from (suc n) (suc m) at f l b some =
-        let there : at + beyond ≤ length s = omega arith in
-        ⊎-elim
-        (λ (e : test s at ≡ true). rw (byTest s t at f there) (rw e (byFound s t at f there)))
-        (λ (e : test s at ≡ false). rw (byTest s t at f there) (rw e (stays-from n m (suc at) (omega arith) (omega arith) (omega arith) (λ z. some (rw e z)))))
-        (bool-cases (test s at))
-
-    pub found-stays : (searched s ≡ none → ⊥) → searched (s ++ t) ≡ searched s
-    found-stays some =
-        let longer : length s ≤ length (s ++ t) = simp length-append (omega arith) in
-        stays-from (length s - beyond - from) (length (s ++ t) - beyond - from) from (omega arith) (omega arith) (omega arith) some
+found-stays : {A : Type 0} (none : A) (from beyond : ℕ) (test : List ℕ → ℕ → Bool) (value : List ℕ → ℕ → A) → Local from beyond test → Local from beyond value → (s t : List ℕ)
+    → (firstOr none (valuesIn from beyond test value s) ≡ none → ⊥) → firstOr none (valuesIn from beyond test value (s ++ t)) ≡ firstOr none (valuesIn from beyond test value s)
+found-stays none from beyond test value byTest byValue s t some =
+    let l = values-longer from beyond test value byTest byValue s t in
+    first-stays none (valuesIn from beyond test value s) (l .0) (valuesIn from beyond test value (s ++ t)) (l .1) some
 
 -- the same of what a function answers that goes by the search
 stays-answered : {R : Type 0} (none : R) (f : List ℕ → R) → ((s t : List ℕ) → (f s ≡ none → ⊥) → f (s ++ t) ≡ f s) → FoundStays none (λ s r. r ≡ f s)

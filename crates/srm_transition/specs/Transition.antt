@@ -1,17 +1,16 @@
 -- `search_v63_transition` and `flatv66_event_transition`: which place of a method's bytes holds a transition. Differences of
 -- places and sizes stop at 0.
 use Prim.Native.Nat.{ℕ, _+_, _-_}
-use mathlib.Core.Bool.{Bool, false, not, _&&_}
-use mathlib.Core.List.{List}
+use mathlib.Core.Bool.{Bool, not, _&&_}
+use mathlib.Core.List.{List, map}
 use lib.Dec.{eqb}
-use lib.IntN.{pos}
-use lib.Ieee.{Float, binary64, ofBits, ofInt, round, sub, lt}
+use lib.Ieee.{Float, binary64, sub, lt}
 use lib.Ieee.{le}
 use lib.Ieee.Scale.{finite}
 use lib.ListN.{length}
 use Rattle.float_bits.specs.Absolute.{absolute}
-use Rattle.parser.specs.Parser.{bytes, littleEndian, wordAt, f64At}
-use Rattle.srm_transition.specs.First.{first}
+use Rattle.parser.specs.Parser.{wordAt, f64At}
+use Rattle.srm_transition.specs.Places.{firstOr, placesWhere}
 use Rattle.srm_transition.specs.declared.Transition.{Transition}
 use Rattle.srm_transition.specs.declared.TransitionAnswer.{TransitionAnswer}
 use Rattle.srm_transition.specs.declared.TransitionAnswer.the-variants.{None, Found}
@@ -20,17 +19,13 @@ use Rattle.srm_transition.specs.declared.EventTransitionAnswer.{EventTra
 use Rattle.srm_transition.specs.declared.EventTransitionAnswer.the-variants.{None as NoEvent, Found as FoundEvent}
 use Rattle.float_bits.specs.Numbers.{ratio, whole}
 
--- how far apart two numbers are
-abbrev pub distance : Float → Float → Float
-distance x y = absolute (sub binary64 x y)
-
 -- a finite number from low to high, both included
 abbrev pub inRange : Float → Float → Float → Bool
 inRange low high x = finite x && le low x && le x high
 
 -- not farther than 0.002, which holds of 0.002 and, as a NaN compares with nothing, of a NaN
 abbrev pub notFar : Float → Float → Bool
-notFar x target = not (lt (ratio 2 1000) (distance x target))
+notFar x target = not (lt (ratio 2 1000) (absolute (sub binary64 x target)))
 
 -- the Q3 centre at j is not far; Q1 stands 8 bytes before it, the width 8 and the collision energy 24 bytes after it
 unfoldable pub v63Test : Float → List ℕ → ℕ → Bool
@@ -45,7 +40,7 @@ v63At s j =
     record { place = j; q1 = wordAt s (j - 8) 8; «q3_width» = wordAt s (j + 8) 8; «collision_energy» = wordAt s (j + 24) 8 }
 
 unfoldable pub searchV63Transition : Float → List ℕ → TransitionAnswer
-searchV63Transition target s = first (v63Test target s) (λ j. Found (v63At s j)) None 8 (length s - 32)
+searchV63Transition target s = firstOr None (map (λ j. Found (v63At s j)) (placesWhere (v63Test target s) 8 (length s - 32)))
 
 -- a Q3 window: its upper end is above the lower one by less than 0.1
 abbrev pub narrowWindow : Float → Float → Bool
@@ -53,7 +48,7 @@ narrowWindow lo hi = lt lo hi && lt (sub binary64 hi lo) (ratio 1 10)
 
 -- nearer than 0.002, which neither 0.002 nor a NaN is
 abbrev pub isNear : Float → Float → Bool
-isNear x target = lt (distance x target) (ratio 2 1000)
+isNear x target = lt (absolute (sub binary64 x target)) (ratio 2 1000)
 
 -- between low and high, both excluded
 abbrev pub isBetween : Float → Float → Float → Bool
@@ -71,4 +66,4 @@ abbrev pub eventAt : List ℕ → ℕ → EventTransition
 eventAt s i = record { place = i; q1 = wordAt s (i - 16) 8 }
 
 unfoldable pub flatv66EventTransition : ℕ → Float → List ℕ → EventTransitionAnswer
-flatv66EventTransition event hi s = first (eventTest event hi s) (λ i. FoundEvent (eventAt s i)) NoEvent 24 (length s - 8)
+flatv66EventTransition event hi s = firstOr NoEvent (map (λ i. FoundEvent (eventAt s i)) (placesWhere (eventTest event hi s) 24 (length s - 8)))

@@ -5,22 +5,21 @@ use Prim.Native.Nat.{_+_, _*_, _-_, _^_, min}
 use native.Mathlib.Omega.{arith}
 use lib.Ieee.{binary32, ofBits}
 use denote.Ref.{now}
-use Rattle.parser.specs.Parser.{bytes, littleEndian}
+use Rattle.parser.specs.Parser.{bytes, littleEndian, f32At}
 use Rattle.lists.proofs.Laws.{Filling, fill-none, fill-more, fill-done}
 use Rattle.reader.proofs.Words.{le-saturated}
 use Rattle.reader.proofs.Copies.{next-place}
-use Rattle.calibration.specs.Convert.{intensityAt}
 use Rattle.calibration.specs.Internal.{mzOn}
 use borrow.Author.Needs.{needs}
 use Rattle.calibration.proofs.write_pairs.Statement.{statement}
 use Rattle.calibration.proofs.write_pairs.Tie as tie
 
 abbrev Inv-loop : tie.InvT-loop
-Inv-loop run at n axis layout mz₀ intensity₀ count place₀ i₀ mz intensity place i =
-    Filling (mzOn axis layout) count mz₀ mz i × Filling (intensityAt run at) count intensity₀ intensity i × (place ≡ min (at + i * 4) (2 ^ 64 - 1))
+Inv-loop run at n bins layout mz₀ intensity₀ count place₀ i₀ mz intensity place i =
+    Filling (mzOn bins layout) count mz₀ mz i × Filling (λ k. f32At run (at + k * 4)) count intensity₀ intensity i × (place ≡ min (at + i * 4) (2 ^ 64 - 1))
 
 abbrev μ-loop : tie.MeasureT-loop
-μ-loop run at n axis layout mz₀ intensity₀ count place₀ i₀ mz intensity place i = count - i
+μ-loop run at n bins layout mz₀ intensity₀ count place₀ i₀ mz intensity place i = count - i
 
 loop-holds : tie.Need-loop-holds Inv-loop μ-loop
 loop-holds c = (fill-none _ _ _, fill-none _ _ _, omega arith)

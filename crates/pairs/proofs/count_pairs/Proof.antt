@@ -3,7 +3,7 @@ use mathlib.Core.Path.{sym, _∙_}
 use Prim.Native.Nat.{_-_}
 use native.Mathlib.Omega.{arith}
 use denote.Ref.{now}
-use Rattle.pairs.proofs.Signals.{There, there, missing}
+use Rattle.packet_profile.proofs.Signals.{There, there, missing}
 use Rattle.pairs.proofs.Counting.{Counting, counting-first, counting-more, counting-short, counting-all}
 use borrow.Author.Needs.{needs}
 use Rattle.pairs.proofs.count_pairs.Statement.{statement}

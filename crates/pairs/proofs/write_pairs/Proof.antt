@@ -3,7 +3,7 @@ use mathlib.Core.Path.{refl, sym, _∙_}
 use Prim.Native.Nat.{_-_}
 use native.Mathlib.Omega.{arith}
 use denote.Ref.{now}
-use Rattle.pairs.proofs.Signals.{There, there, missing}
+use Rattle.packet_profile.proofs.Signals.{There, there, missing}
 use Rattle.pairs.proofs.Writing.{Writing, writing-first, writing-more, writing-short, writing-all, mz-size, intensity-size, mz-within, intensity-within, with-chunk}
 use borrow.Author.Needs.{needs}
 use Rattle.pairs.proofs.write_pairs.Statement.{statement}

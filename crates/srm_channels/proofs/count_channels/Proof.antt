@@ -4,7 +4,7 @@ use mathlib.Core.Logic.{⊎-elim}
 use Prim.Native.Nat.{_-_, _≤_}
 use native.Mathlib.Omega.{arith}
 use Rattle.srm_channels.specs.Channels.{channelTest, channelAt, channelsIn}
-use Rattle.srm_channels.proofs.Passing.{Counted, count-none, count-in, count-out, count-done}
+use Rattle.srm_channels.proofs.Turns.{Counted, count-none, count-in, count-out, count-done}
 use borrow.Author.Needs.{needs}
 use Rattle.srm_channels.proofs.count_channels.Statement.{statement}
 use Rattle.srm_channels.proofs.count_channels.Tie as tie

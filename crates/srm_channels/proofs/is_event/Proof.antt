@@ -4,14 +4,14 @@ use Prim.Native.Nat.{_-_}
 use native.Mathlib.Omega.{arith}
 use lib.ListN.{length, drop}
 use denote.Ref.{now}
-use Rattle.srm_channels.specs.Channels.{among}
-use Rattle.srm_channels.proofs.Among.{among-here, among-later, among-none}
+use Rattle.srm_channels.specs.Channels.{isEvent}
+use Rattle.srm_channels.proofs.IsEvent.{event-here, event-later, event-none}
 use borrow.Author.Needs.{needs}
 use Rattle.srm_channels.proofs.is_event.Statement.{statement}
 use Rattle.srm_channels.proofs.is_event.Tie as tie
 
 abbrev Inv-loop : tie.InvT-loop
-Inv-loop id events k₀ k = among id events ≡ among id (drop k events)
+Inv-loop id events k₀ k = isEvent id events ≡ isEvent id (drop k events)
 
 abbrev μ-loop : tie.MeasureT-loop
 μ-loop id events k₀ k = length events - k
@@ -26,16 +26,16 @@ returns : tie.Need-returns Inv-loop μ-loop
 returns c =
     let l = c .before .before .before in
     let a = l .before .args in
-    sym (l .loop .inv ∙ among-here (a .id) (now (a .events)) (l .loop .k) (search needs) (c .if1 .taken))
+    sym (l .loop .inv ∙ event-here (a .id) (now (a .events)) (l .loop .k) (search needs) (c .if1 .taken))
 
 loop-again : tie.Need-loop-again Inv-loop μ-loop
 loop-again c =
     let l = c .before .before .before in
     let a = l .before .args in
-    l .loop .inv ∙ among-later (a .id) (now (a .events)) (l .loop .k) (search needs) (c .if1 .left)
+    l .loop .inv ∙ event-later (a .id) (now (a .events)) (l .loop .k) (search needs) (c .if1 .left)
 
 returns-2 : tie.Need-returns-2 Inv-loop μ-loop
-returns-2 c = sym (c .before .loop .inv ∙ among-none _ _ _ (c .loop-test .left))
+returns-2 c = sym (c .before .loop .inv ∙ event-none _ _ _ (c .loop-test .left))
 
 pub is-event-spec : {M : Type 1} → statement M
 is-event-spec = tie.close (tie.spec Inv-loop μ-loop loop-holds (search needs) (search needs) cast-if1 returns (search needs) (search needs) loop-again returns-2)

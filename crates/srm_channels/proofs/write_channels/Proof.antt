@@ -6,7 +6,7 @@ use native.Mathlib.Omega.{arith}
 use lib.ListN.{length}
 use denote.Ref.{now}
 use Rattle.srm_channels.specs.Channels.{channelTest, channelAt, channelsIn}
-use Rattle.srm_channels.proofs.Passing.{Counted, count-none, count-in, count-out, count-room, Written, write-none, write-in, write-out, write-done}
+use Rattle.srm_channels.proofs.Turns.{Counted, count-none, count-in, count-out, count-room, Written, write-none, write-in, write-out, write-done}
 use Rattle.srm_channels.proofs.Answers.{channel-event}
 use borrow.Author.Needs.{needs}
 use Rattle.srm_channels.proofs.write_channels.Statement.{statement}

@@ -3,10 +3,9 @@ use mathlib.Core.Path.{_≡_, refl, sym, ap, _∙_}
 use Prim.Native.Nat.{_-_, _≤_}
 use native.Mathlib.Omega.{arith}
 use lib.ListN.{length}
-use Rattle.srm_transition.specs.First.{first}
 use Rattle.srm_transition.specs.Transition.{v63Test, v63At, searchV63Transition}
 use Rattle.srm_transition.specs.declared.TransitionAnswer.the-variants.{None, Found}
-use Rattle.srm_transition.proofs.Searches.{first-here, first-later, first-none}
+use Rattle.srm_transition.proofs.Places.{first, first-here, first-later, first-none}
 use borrow.Author.Needs.{needs}
 use Rattle.srm_transition.proofs.search_v63_transition.Statement.{statement}
 use Rattle.srm_transition.proofs.search_v63_transition.Tie as tie
