@@ -9,25 +9,23 @@ use Rattle.parser.specs.Call.{outcome}
 use Rattle.packet_header.specs.declared.PacketHeader.{PacketHeader}
 use Rattle.packet_profile.specs.Profile.{points, profile, located}
 use Rattle.packet_profile.proofs.Answers.{profile-chunks}
-use Rattle.packet_record.specs.Packet.{Stored, absent, present, describeProfile, decoded, Lent}
-use Rattle.packet_record.specs.Places.{decodedAt}
+use Rattle.packet_record.specs.Packet.{OptionalProfile, absent, present, Contents, contentsAt, profilePlace, packetIfFits}
 use Rattle.packet_record.specs.declared.PacketProfile.{PacketProfile}
 use Rattle.packet_record.specs.declared.Places.{Places}
-use Rattle.packet_record.proofs.Found.{decoded-is}
-use Rattle.packet_places.specs.Packet.{stored, packet}
-use Rattle.packet_places.specs.Places.{fullPlaces, findPlaces}
+use Rattle.packet_places.specs.Packet.{optionalProfile, packet}
+use Rattle.packet_places.specs.Places.{findPlaces}
 use Rattle.packet_places.proofs.Stages.{present-parsed}
 use Rattle.packet_places.proofs.Answers.{packet-short, Standing, standing}
-use Rattle.packet_full.specs.Full.{columns, chunksOf, ChunkLent, handOut, readPacket}
+use Rattle.packet_full.specs.Full.{chunkLists, chunksOf, readPacket}
 use Rattle.packet_full.specs.Internal.{chunkList, chunksAt, ProfileThere}
 
--- a stored profile's chunks, by its record
-record Chunked (v : PacketProfile) (p : Stored) (s : List ℕ) : Type 0 where
+-- a profile's chunks, by its place
+record Chunked (v : PacketProfile) (p : OptionalProfile) (s : List ℕ) : Type 0 where
   there : ProfileThere v s
   list : chunksAt v s ≡ chunksOf p
 
-chunked-as : (h : PacketHeader) (s : List ℕ) (at : ℕ) (p : Stored) (next : ℕ) → parse (stored h) s (at + 40) ≡ parsed p next
-    → Chunked (describeProfile (h .layout) at p) p s
+chunked-as : (h : PacketHeader) (s : List ℕ) (at : ℕ) (p : OptionalProfile) (next : ℕ) → parse (optionalProfile h) s (at + 40) ≡ parsed p next
+    → Chunked (profilePlace (h .layout) at p) p s
 unfolding chunkList located
 chunked-as h s at absent next e = record { there = tt; list = refl }
 chunked-as h s at (present p) next e =
@@ -42,21 +40,22 @@ chunked-as h s at (present p) next e =
 module _ (s : List ℕ) (at : ℕ) where
   -- the chunks of a packet that was found
   chunked : {v : Places} (t : Standing s at v) → Chunked (v .profile) (t .profile) s
-  chunked t = subst (λ q. Chunked q (t .profile) s) (sym (t .is)) (chunked-as (t .header) s at (t .profile) (t .next) (t .kept))
+  chunked t = subst (λ q. Chunked q (t .profile) s) (sym (t .is)) (chunked-as (t .header) s at (t .profile) (t .next) (t .profile-there))
 
-  module _ (lent : Lent) (chunkLent : ChunkLent) where
-    pub places-short : {n : ℕ} {carries : List ℕ} → refused n carries ≡ findPlaces at s → refused n carries ≡ readPacket lent chunkLent at s
+  module _ (capacities : List ℕ) where
+    pub places-short : {n : ℕ} {carries : List ℕ} → refused n carries ≡ findPlaces at s → refused n carries ≡ readPacket capacities at s
     unfolding readPacket outcome
     places-short e = let r = packet-short s at e in rw (r .one, r .part, r .there)
 
-    pub places-found : {v : Places} → ok v ≡ findPlaces at s → handOut lent chunkLent (decodedAt v s) (columns (chunksAt (v .profile) s)) ≡ readPacket lent chunkLent at s
+    pub places-found : {v : Places} {c : Contents} → ok (v, c) ≡ findPlaces at s
+        → packetIfFits capacities v (contentsAt s v) (chunkLists (chunksAt (v .profile) s)) ≡ readPacket capacities at s
     unfolding readPacket outcome
     places-found {v} e =
         let t = standing s at e in
         let w = t .stands in
-        let d = decoded (fullPlaces at (w .packet) (v .labels .next)) (w .packet .peaks) (w .packet .labels) in
-        ap (λ d. handOut lent chunkLent d (columns (chunksAt (v .profile) s))) (decoded-is w)
-        ∙ ap (λ cs. handOut lent chunkLent d (columns cs)) (chunked t .list ∙ ap chunksOf (sym (w .profile-is))) ∙ rw (w .there)
+        ap (λ cs. packetIfFits capacities v (contentsAt s v) (chunkLists cs)) (chunked t .list ∙ ap chunksOf (sym (w .profile-is)))
+        ∙ ap (λ c. packetIfFits capacities v c (chunkLists (chunksOf (w .packet .profile)))) (w .contents)
+        ∙ ap (λ (q : Places). packetIfFits capacities q (w .packet .contents) (chunkLists (chunksOf (w .packet .profile)))) (w .placed) ∙ rw (w .there)
 
-  pub profile-there : {v : Places} → ok v ≡ findPlaces at s → ProfileThere (v .profile) s
+  pub profile-there : {v : Places} {c : Contents} → ok (v, c) ≡ findPlaces at s → ProfileThere (v .profile) s
   profile-there e = chunked (standing s at e) .there

@@ -7,13 +7,14 @@ use mathlib.Core.Bool.{Bool}
 use mathlib.Core.List.{List, [], _∷_, _++_, append-assoc, append-nil, map, map-append}
 use lib.ListN.{length, take, drop, set, length-append, length-set, length-map, length-take, length-drop}
 use Rattle.lists.specs.Written.{each, over, fitting}
+use Rattle.lists.specs.Left.{overAll}
 use Rattle.lists.proofs.Laws.{length-each, length-over, over-none, over-tail, store-at, fitting-all}
 use Rattle.parser.specs.Parser.{parsed, bytes, littleEndian, left, parse, repeat}
 use Rattle.parser.specs.Walk.{sum}
 use Rattle.parser.proofs.Walk.{FirstOf, first-of}
 use Rattle.packet_profile.specs.Profile.{headSize, Chunk, points, chunk, fudgeAt}
 use Rattle.packet_profile.proofs.Chunks.{Whole, whole-chunk}
-use Rattle.packet_full.specs.Full.{fourOf, columns, signals, columnsOver}
+use Rattle.packet_full.specs.Full.{signals, chunkLists}
 
 -- a column of the chunks that are done, over the front of its slice
 pub record Column (f : Chunk → ℕ) (done : List Chunk) (xs X : List ℕ) : Type 0 where
@@ -176,5 +177,5 @@ signals-size [] = refl
 signals-size (k ∷ cs) = omega (arith, length-append (k .signal) (signals cs), signals-size cs)
 
 pub written-all : {count : ℕ} {fudged : Bool} {s : List ℕ} {all : List Chunk} {b c f v B C F W : List ℕ} {at written i : ℕ}
-    → Writing count fudged s all b c f v B C F W at written i → i ≡ count → fourOf B C F W ≡ columnsOver (columns all) (fourOf b c f v)
+    → Writing count fudged s all b c f v B C F W at written i → i ≡ count → (B ∷ C ∷ F ∷ W ∷ []) ≡ overAll (chunkLists all) (b ∷ c ∷ f ∷ v ∷ [])
 written-all w e = rw (all-done w e, ← w .bins .is, ← w .counts .is, ← w .fudges .is, ← w .signal)

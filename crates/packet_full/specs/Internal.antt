@@ -9,7 +9,6 @@ use Rattle.packet_profile.specs.Profile.{Chunk, points, chunk}
 use Rattle.packet_profile.specs.declared.Profile.{Profile}
 use Rattle.packet_record.specs.declared.PacketProfile.{PacketProfile}
 use Rattle.packet_record.specs.declared.PacketProfile.the-variants.{Absent, Present}
-use Rattle.packet_full.specs.Full.{Columns}
 
 -- the chunks of a profile, as they are parsed
 abbrev pub listOf : Parsed (List Chunk) → List Chunk
@@ -34,16 +33,16 @@ ProfileThere Absent s = Unit {0}
 ProfileThere (Present p) s = Parsing p s
 
 -- and the slices hold them
-pub record ChunksThere (p : Profile) (s : List ℕ) (xs : Columns) : Type 0 where
+pub record ChunksThere (p : Profile) (s b c f v : List ℕ) : Type 0 where
   pub parsing : Parsing p s
-  pub in-bins : p .«peak_count» ≤ length (xs .bins)
-  pub in-counts : p .«peak_count» ≤ length (xs .counts)
-  pub in-fudges : p .«peak_count» ≤ length (xs .fudges)
-  pub in-signal : p .points ≤ length (xs .signal)
+  pub in-bins : p .«peak_count» ≤ length b
+  pub in-counts : p .«peak_count» ≤ length c
+  pub in-fudges : p .«peak_count» ≤ length f
+  pub in-signal : p .points ≤ length v
 
-abbrev pub HasChunks : PacketProfile → List ℕ → Columns → Type 0
-HasChunks Absent s xs = Unit {0}
-HasChunks (Present p) s xs = ChunksThere p s xs
+abbrev pub HasChunks : PacketProfile → List ℕ → List ℕ → List ℕ → List ℕ → List ℕ → Type 0
+HasChunks Absent s b c f v = Unit {0}
+HasChunks (Present p) s b c f v = ChunksThere p s b c f v
 
 abbrev pub chunkCount : PacketProfile → ℕ
 chunkCount Absent = 0

@@ -1,9 +1,9 @@
 // A whole packet: profile, peaks and labels (`ScanDataPacket::read` of scan_data.rs).
 ghost use mathlib.Core.Path.{_≡_};
-ghost use Rattle.refusal.specs.Outcome.{onOk};
-ghost use Rattle.packet_record.specs.Packet.{nodesAt, slices, lentOf, outcomeOf};
-ghost use Rattle.packet_record.specs.Places.{decodedAt};
-ghost use Rattle.packet_full.specs.Full.{fourOf, columns, chunkLentOf, columnsOver, handOut, readPacket, Answers};
+ghost use mathlib.Core.List.{[], _∷_};
+ghost use Rattle.lists.specs.Left.{overAll, LeftLists};
+ghost use Rattle.packet_record.specs.Packet.{contentsAt, packetIfFits, withNodes};
+ghost use Rattle.packet_full.specs.Full.{chunkLists, readPacket};
 ghost use Rattle.packet_full.specs.Internal.{ChunksThere, HasChunks, ProfileThere, chunkList, chunksAt, chunkCount, pointCount};
 use lists::holds;
 use packet_places::find_places;
@@ -18,7 +18,7 @@ use reader::copy_u32s;
 use reader::u32_at;
 use refusal::Refusal;
 
-// The columns of chunks that are there, where the slices hold them. Each chunk's signal stands after that of the chunk
+// The lists of chunks that are there, where the slices hold them. Each chunk's signal stands after that of the chunk
 // before.
 fn write_chunks(
     run: &[u8],
@@ -28,9 +28,9 @@ fn write_chunks(
     fudges: &mut [u32],
     signal: &mut [u32],
 )
-    requires { ⌜ ChunksThere p (now run) (fourOf (now bins) (now counts) (now fudges) (now signal)) ⌝ }
-    ensures { λ _. ⌜ fourOf (now (bins .exit)) (now (counts .exit)) (now (fudges .exit)) (now (signal .exit))
-        ≡ columnsOver (columns (chunkList p (now (run .entry)))) (fourOf (now (bins .entry)) (now (counts .entry)) (now (fudges .entry)) (now (signal .entry))) ⌝ }
+    requires { ⌜ ChunksThere p (now run) (now bins) (now counts) (now fudges) (now signal) ⌝ }
+    ensures { λ _. ⌜ now (bins .exit) ∷ now (counts .exit) ∷ now (fudges .exit) ∷ now (signal .exit) ∷ []
+        ≡ overAll (chunkLists (chunkList p (now (run .entry)))) (now (bins .entry) ∷ now (counts .entry) ∷ now (fudges .entry) ∷ now (signal .entry) ∷ []) ⌝ }
 {
     let count = p.peak_count as usize;
     let fudged = p.fudged;
@@ -72,8 +72,8 @@ fn chunk_counts(profile: PacketProfile) -> ChunkCounts
     }
 }
 
-// The columns of a profile's chunks, if there is one.
-fn write_columns(
+// The lists of a profile's chunks, if there is one.
+fn write_profile(
     run: &[u8],
     profile: PacketProfile,
     bins: &mut [u32],
@@ -81,9 +81,9 @@ fn write_columns(
     fudges: &mut [u32],
     signal: &mut [u32],
 )
-    requires { ⌜ HasChunks profile (now run) (fourOf (now bins) (now counts) (now fudges) (now signal)) ⌝ }
-    ensures { λ _. ⌜ fourOf (now (bins .exit)) (now (counts .exit)) (now (fudges .exit)) (now (signal .exit))
-        ≡ columnsOver (columns (chunksAt profile (now (run .entry)))) (fourOf (now (bins .entry)) (now (counts .entry)) (now (fudges .entry)) (now (signal .entry))) ⌝ }
+    requires { ⌜ HasChunks profile (now run) (now bins) (now counts) (now fudges) (now signal) ⌝ }
+    ensures { λ _. ⌜ now (bins .exit) ∷ now (counts .exit) ∷ now (fudges .exit) ∷ now (signal .exit) ∷ []
+        ≡ overAll (chunkLists (chunksAt profile (now (run .entry)))) (now (bins .entry) ∷ now (counts .entry) ∷ now (fudges .entry) ∷ now (signal .entry) ∷ []) ⌝ }
 {
     match profile {
         PacketProfile::Absent => {}
@@ -105,9 +105,10 @@ fn hand_out(
     signal: &mut [u32],
 ) -> PacketAnswer
     requires { ⌜ ProfileThere (places .profile) (now run) ⌝ }
-    ensures { λ r. ⌜ Answers (λ lent chunkLent. handOut lent chunkLent (decodedAt places (now (run .entry))) (columns (chunksAt (places .profile) (now (run .entry)))))
-        (slices (now (mz .entry)) (now (abundance .entry)) (now (descriptors .entry)) (now (resolutions .entry)), fourOf (now (bins .entry)) (now (counts .entry)) (now (fudges .entry)) (now (signal .entry)))
-        r (slices (now (mz .exit)) (now (abundance .exit)) (now (descriptors .exit)) (now (resolutions .exit)), fourOf (now (bins .exit)) (now (counts .exit)) (now (fudges .exit)) (now (signal .exit))) ⌝ }
+    ensures { λ r. ⌜ LeftLists (λ c. packetIfFits c places (contentsAt (now (run .entry)) places) (chunkLists (chunksAt (places .profile) (now (run .entry)))))
+        (now (mz .entry) ∷ now (abundance .entry) ∷ now (descriptors .entry) ∷ now (resolutions .entry) ∷ now (bins .entry) ∷ now (counts .entry) ∷ now (fudges .entry) ∷ now (signal .entry) ∷ [])
+        (withNodes (now (run .entry)) r)
+        (now (mz .exit) ∷ now (abundance .exit) ∷ now (descriptors .exit) ∷ now (resolutions .exit) ∷ now (bins .exit) ∷ now (counts .exit) ∷ now (fudges .exit) ∷ now (signal .exit) ∷ []) ⌝ }
 {
     let profile = places.profile;
     let wanted = chunk_counts(profile);
@@ -125,7 +126,7 @@ fn hand_out(
         match packet_record::hand_out(run, places, mz, abundance, descriptors, resolutions) {
             PacketAnswer::Refused(r) => PacketAnswer::Refused(r),
             PacketAnswer::Packet(packet) => {
-                write_columns(run, profile, bins, counts, fudges, signal);
+                write_profile(run, profile, bins, counts, fudges, signal);
                 PacketAnswer::Packet(packet)
             }
         }
@@ -147,12 +148,10 @@ pub fn read_packet(
     fudges: &mut [u32],
     signal: &mut [u32],
 ) -> PacketAnswer
-    ensures { λ r. ⌜ Answers (λ lent chunkLent. readPacket lent chunkLent at (now (run .entry)))
-        (slices (now (mz .entry)) (now (abundance .entry)) (now (descriptors .entry)) (now (resolutions .entry)), fourOf (now (bins .entry)) (now (counts .entry)) (now (fudges .entry)) (now (signal .entry)))
-        r (slices (now (mz .exit)) (now (abundance .exit)) (now (descriptors .exit)) (now (resolutions .exit)), fourOf (now (bins .exit)) (now (counts .exit)) (now (fudges .exit)) (now (signal .exit))) ⌝ }
-    ensures { λ r. ⌜ onOk (nodesAt (now (run .entry))) (outcomeOf r)
-        ≡ onOk (λ p. p .0 .nodes) (readPacket (lentOf (slices (now (mz .entry)) (now (abundance .entry)) (now (descriptors .entry)) (now (resolutions .entry))))
-        (chunkLentOf (fourOf (now (bins .entry)) (now (counts .entry)) (now (fudges .entry)) (now (signal .entry)))) at (now (run .entry))) ⌝ }
+    ensures { λ r. ⌜ LeftLists (λ c. readPacket c at (now (run .entry)))
+        (now (mz .entry) ∷ now (abundance .entry) ∷ now (descriptors .entry) ∷ now (resolutions .entry) ∷ now (bins .entry) ∷ now (counts .entry) ∷ now (fudges .entry) ∷ now (signal .entry) ∷ [])
+        (withNodes (now (run .entry)) r)
+        (now (mz .exit) ∷ now (abundance .exit) ∷ now (descriptors .exit) ∷ now (resolutions .exit) ∷ now (bins .exit) ∷ now (counts .exit) ∷ now (fudges .exit) ∷ now (signal .exit) ∷ []) ⌝ }
 {
     match find_places(run, at) {
         PlacesAnswer::Refused(r) => PacketAnswer::Refused(r),

@@ -1,4 +1,4 @@
--- A stream is of one size, kept or not, and its words are read off at their places.
+-- A stream is of one size, whether it has a word for each peak or not, and its words are read off at their places.
 use mathlib.Core.Path.{_≡_, refl, ap, sym, subst, _∙_}
 use mathlib.Core.Logic.{⊎-elim}
 use Prim.Native.Nat.{ℕ, _+_, _*_, _-_, _/_, _≤_, _<_}
@@ -11,66 +11,38 @@ use borrow.Author.Tests.{le-leb, lt-leb, eq-eqb, ne-eqb, eqb-true}
 use Rattle.lists.specs.Written.{each}
 use Rattle.lists.proofs.Cases.{bool-cases, and-true}
 use Rattle.lists.proofs.Laws.{each-none, each-same}
-use Rattle.parser.specs.Parser.{Parser, done, bytes, littleEndian, word, skip, _>>=_, _>>_}
+use Rattle.parser.specs.Parser.{Parser, done, bytes, word, skip, counted, wordAt, _>>=_, _>>_}
 use Rattle.parser.specs.Internal.{Sized, value}
 use Rattle.parser.proofs.Fixed.{sized-raw, sized-word, sized-bind, sized-cond, sized-counted, value-each}
-use Rattle.packet_labels.specs.Labels.{words, passed, isKept, descriptors, resolutions, triplets}
-use Rattle.packet_labels.specs.Internal.{keptCount}
-
-words-sized : (n : ℕ) → Sized (n * 4) (words n)
-unfolding words
-words-sized n = sized-counted 4 (word 4) (sized-word 4) n
-
-words-value : (n : ℕ) (s : List ℕ) (at off : ℕ) → value (words n) s at off ≡ each (λ i. littleEndian (bytes s (at + off + i * 4) 4)) n
-unfolding words
-words-value n s at off =
-    value-each 4 (word 4) (sized-word 4) n s at off
-    ∙ each-same _ _ n (λ i. ap (λ (p : ℕ). littleEndian (bytes s p 4)) (sym (add-assoc at off (i * 4))))
+use Rattle.packet_labels.specs.Labels.{oneEach, wordsEach, triplets}
+use Rattle.packet_labels.specs.Internal.{wordCount}
 
 -- what follows words that are skipped
-abbrev nothing : Unit {0} → Parser (List ℕ)
-nothing _ = done []
+abbrev none : Unit {0} → Parser (List ℕ)
+none _ = done []
 
-passed-sized : (size : ℕ) → Sized (size * 4) (passed size)
-unfolding passed
-passed-sized size = subst (λ (k : ℕ). Sized k (passed size)) (add-zero (size * 4)) (sized-bind (size * 4) 0 (skip (size * 4)) nothing (sized-raw (size * 4)) (λ _. tt))
-
-kept-size : (n size more : ℕ) → isKept n size more ≡ true → n + more ≡ size
-kept-size n size more h = sym (eqb-true size (n + more) (and-true (leb 1 n) (eqb size (n + more)) h .1))
-
-module _ (n size : ℕ) where
-  pub descriptors-sized : Sized (size * 4) (descriptors n size)
-  unfolding descriptors
-  descriptors-sized =
-      sized-cond (size * 4) (isKept n size 0) (words n) (passed size)
-      (λ t. let e : n ≡ size = omega (arith, kept-size n size 0 t) in subst (λ (k : ℕ). Sized (k * 4) (words n)) e (words-sized n))
-      (λ _. passed-sized size)
-
-  pub resolutions-sized : Sized (size * 4) (resolutions n size)
-  unfolding resolutions
-  resolutions-sized =
-      sized-cond (size * 4) (isKept n size 1) (skip 4 >> words n) (passed size)
+module _ (n others size : ℕ) where
+  pub words-sized : Sized (size * 4) (wordsEach n others size)
+  unfolding wordsEach counted
+  words-sized =
+      sized-cond (size * 4) (oneEach n others size) (skip (others * 4) >> counted n 4 (word 4)) (skip (size * 4) >> done [])
       (λ t.
-      let e : 4 + n * 4 ≡ size * 4 = omega (arith, kept-size n size 1 t) in
-      subst (λ (k : ℕ). Sized k (skip 4 >> words n)) e (sized-bind 4 (n * 4) (skip 4) (λ _. words n) (sized-raw 4) (λ _. words-sized n)))
-      (λ _. passed-sized size)
+      let e : others * 4 + n * 4 ≡ size * 4 = omega (arith, eqb-true size (others + n) (and-true (leb 1 n) (eqb size (others + n)) t .1)) in
+      subst (λ (k : ℕ). Sized k (skip (others * 4) >> counted n 4 (word 4))) e
+      (sized-bind (others * 4) (n * 4) (skip (others * 4)) (λ _. counted n 4 (word 4)) (sized-raw (others * 4)) (λ _. sized-counted 4 (word 4) (sized-word 4) n)))
+      (λ _. subst (λ (k : ℕ). Sized k (skip (size * 4) >>= none)) (add-zero (size * 4)) (sized-bind (size * 4) 0 (skip (size * 4)) none (sized-raw (size * 4)) (λ _. tt)))
 
-  module _ (s : List ℕ) (at off : ℕ) where
-    pub descriptors-value : value (descriptors n size) s at off ≡ each (λ i. littleEndian (bytes s (at + off + i * 4) 4)) (keptCount n size 0)
-    unfolding descriptors passed
-    descriptors-value =
-        ⊎-elim
-        (λ (t : isKept n size 0 ≡ true). rw t (words-value n s at off))
-        (λ (t : isKept n size 0 ≡ false). rw t (each-none (λ i. littleEndian (bytes s (at + off + i * 4) 4))))
-        (bool-cases (isKept n size 0))
-
-    pub resolutions-value : value (resolutions n size) s at off ≡ each (λ i. littleEndian (bytes s (at + off + 4 + i * 4) 4)) (keptCount n size 1)
-    unfolding resolutions passed
-    resolutions-value =
-        ⊎-elim
-        (λ (t : isKept n size 1 ≡ true). rw t (words-value n s at (off + 4) ∙ rw (add-assoc at off 4)))
-        (λ (t : isKept n size 1 ≡ false). rw t (each-none (λ i. littleEndian (bytes s (at + off + 4 + i * 4) 4))))
-        (bool-cases (isKept n size 1))
+  pub words-value : (s : List ℕ) (at off : ℕ) {place : ℕ} → at + (off + others * 4) ≡ place
+      → value (wordsEach n others size) s at off ≡ each (λ i. wordAt s (place + i * 4) 4) (wordCount n others size)
+  unfolding wordsEach counted
+  words-value s at off {place} e =
+      ⊎-elim
+      (λ (t : oneEach n others size ≡ true).
+      rw t
+      (value-each 4 (word 4) (sized-word 4) n s at (off + others * 4)
+      ∙ each-same _ _ n (λ i. ap (λ (p : ℕ). wordAt s p 4) (sym (add-assoc at (off + others * 4) (i * 4)) ∙ ap (λ (p : ℕ). p + i * 4) e))))
+      (λ (t : oneEach n others size ≡ false). rw t (each-none (λ i. wordAt s (place + i * 4) 4)))
+      (bool-cases (oneEach n others size))
 
 -- the nodes and the words that are left over. The law is the same in whatever order they stand, so that an edit of the order fails at their value
 pub triplets-sized : (size : ℕ) → Sized (size * 4) (triplets size)
@@ -90,17 +62,17 @@ pub triplets-value : (size : ℕ) (s : List ℕ) (at off : ℕ) → value (tripl
 unfolding triplets
 triplets-value size s at off = refl
 
--- how many words are kept, by the tests
-module _ (n size more : ℕ) where
-  pub is-kept : 1 ≤ n → size ≡ n + more → n ≡ keptCount n size more
-  is-kept h e = rw (le-leb 1 n h, eq-eqb size (n + more) e)
+-- how many words there are, by the tests
+module _ (n others size : ℕ) where
+  pub one-each : 1 ≤ n → size ≡ others + n → n ≡ wordCount n others size
+  one-each h e = rw (le-leb 1 n h, eq-eqb size (others + n) e)
 
-  pub no-peaks : n < 1 → 0 ≡ keptCount n size more
+  pub no-peaks : n < 1 → 0 ≡ wordCount n others size
   no-peaks h = rw (lt-leb 1 n h)
 
-  pub other-size : (size ≡ n + more → ⊥) → 0 ≡ keptCount n size more
-  other-size h = rw (ne-eqb size (n + more) h) (none (leb 1 n))
+  pub other-size : (size ≡ others + n → ⊥) → 0 ≡ wordCount n others size
+  other-size h = rw (ne-eqb size (others + n) h) (nothing (leb 1 n))
     where
-      none : (b : Bool) → 0 ≡ cond (b && false) n 0
-      none true = refl
-      none false = refl
+      nothing : (b : Bool) → 0 ≡ cond (b && false) n 0
+      nothing true = refl
+      nothing false = refl

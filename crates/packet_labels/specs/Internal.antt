@@ -1,7 +1,7 @@
--- How many words of a stream are kept, for the private functions. No public promise cites it.
+-- How many words of a stream there are for the peaks, for the private functions. No public promise cites it.
 use Prim.Native.Nat.{ℕ}
 use mathlib.Core.Bool.{cond}
-use Rattle.packet_labels.specs.Labels.{isKept}
+use Rattle.packet_labels.specs.Labels.{oneEach}
 
-abbrev pub keptCount : ℕ → ℕ → ℕ → ℕ
-keptCount n size more = cond (isKept n size more) n 0
+abbrev pub wordCount : ℕ → ℕ → ℕ → ℕ
+wordCount n others size = cond (oneEach n others size) n 0

@@ -1,8 +1,8 @@
 // The label streams after a packet's peak list (`read_labels` of scan_data.rs): descriptors, resolutions and noise nodes.
 ghost use mathlib.Core.Path.{_≡_};
 ghost use Rattle.refusal.specs.Outcome.{onOk};
-ghost use Rattle.packet_labels.specs.Labels.{readLabels, streamsAt, readStreams, outcomeOf};
-ghost use Rattle.packet_labels.specs.Internal.{keptCount};
+ghost use Rattle.packet_labels.specs.Labels.{readLabels, streamsAt, outcomeOf};
+ghost use Rattle.packet_labels.specs.Internal.{wordCount};
 use packet_header::PacketHeader;
 use reader::remaining;
 use refusal::Part;
@@ -27,13 +27,13 @@ pub enum LabelsAnswer {
     Refused(Refusal),
 }
 
-// How many words are kept of a stream that has one for each peak, and some more before them: all or none.
-fn kept_count(peaks: u64, size: u64, more: u64) -> u64
-    ensures { λ r. ⌜ r ≡ keptCount peaks size more ⌝ }
+// How many words for peaks a stream of this size has: one for each, after the others, or none.
+fn word_count(peaks: u64, others: u64, size: u64) -> u64
+    ensures { λ r. ⌜ r ≡ wordCount peaks others size ⌝ }
 {
     if 1 <= peaks {
-        if more <= size {
-            if size - more == peaks {
+        if others <= size {
+            if size - others == peaks {
                 return peaks;
             }
         }
@@ -41,20 +41,19 @@ fn kept_count(peaks: u64, size: u64, more: u64) -> u64
     0
 }
 
-// The streams of a packet with so many peaks. Kept or passed over, a stream takes four times its size, so one test judges
+// The streams of a packet with so many peaks. Read or skipped, a stream takes four times its size, so one test judges
 // them all.
 pub fn read_labels(run: &[u8], at: u64, h: PacketHeader, peaks: u64) -> LabelsAnswer
-    ensures { λ r. ⌜ outcomeOf r ≡ readLabels h peaks at (now (run .entry)) ⌝ }
-    ensures { λ r. ⌜ onOk (streamsAt (now (run .entry))) (outcomeOf r) ≡ readStreams h peaks at (now (run .entry)) ⌝ }
+    ensures { λ r. ⌜ onOk (λ l. (l, streamsAt (now (run .entry)) l)) (outcomeOf r) ≡ readLabels h peaks at (now (run .entry)) ⌝ }
 {
     let descriptors = h.descriptor_list_size as u64;
     let unknown = h.unknown_stream_size as u64;
     let triplets = h.triplet_stream_size as u64;
     if (descriptors + unknown + triplets) * 4 <= remaining(run, at) {
         return LabelsAnswer::Labels(Labels {
-            descriptors: kept_count(peaks, descriptors, 0),
+            descriptors: word_count(peaks, 0, descriptors),
             descriptors_at: at,
-            resolutions: kept_count(peaks, unknown, 1),
+            resolutions: word_count(peaks, 1, unknown),
             unknown_at: at + descriptors * 4,
             noise_nodes: triplets / 3,
             nodes_at: at + descriptors * 4 + unknown * 4,

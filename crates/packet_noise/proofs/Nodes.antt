@@ -1,21 +1,20 @@
 -- The part of the run that holds a packet's nodes; and whose nodes these are.
-use mathlib.Core.Path.{_≡_, refl, sym, ap, _∙_}
+use mathlib.Core.Path.{_≡_, sym, ap, _∙_}
 use mathlib.Core.Logic.{⊎-elim}
-use Prim.Native.Nat.{ℕ, _+_, _*_, _-_, _≤_, _<_, min}
+use Prim.Native.Nat.{ℕ, _+_, _-_, _≤_, _<_, min}
 use native.Mathlib.Omega.{arith}
-use mathlib.Core.List.{List, [], _∷_, _++_}
+use mathlib.Core.List.{List, _++_}
 use lib.Ieee.{Float}
 use lib.ListN.{length, take, drop, length-take, length-drop, drop-of-length-le}
 use lib.Seq.{take-all, take-nil}
 use Rattle.refusal.specs.Outcome.{Outcome, ok, onOk}
-use Rattle.refusal.proofs.Outcomes.{Made, made-of}
+use Rattle.refusal.proofs.Outcomes.{made-of}
 use Rattle.lists.proofs.Cases.{le-or-lt}
 use Rattle.parser.specs.Parser.{bytes, left}
 use Rattle.noise.specs.Nodes.{nodesOf}
 use Rattle.noise.specs.Line.{noiseAt}
-use Rattle.packet_record.specs.Packet.{nodesAt, outcomeOf}
+use Rattle.packet_record.specs.Packet.{nodesAt, withNodes}
 use Rattle.packet_record.specs.declared.ScanDataPacket.{ScanDataPacket}
-use Rattle.packet_record.specs.declared.PacketAnswer.{PacketAnswer}
 use Rattle.packet_record.specs.declared.PacketAnswer.the-variants as answer
 
 pub bytes-length : (s : List ℕ) (at n : ℕ) → length (bytes s at n) ≡ min n (left s at)
@@ -44,16 +43,20 @@ part-is s at n start end e f =
     rw (drop-of-length-le s end-of, drop-of-length-le s beyond, take-nil, take-nil))
     (le-or-lt at (length s)))
 
--- A reader's promise says that the nodes at the places which it answers are those that it read (`nodes` of its outcome's value).
--- So noise by an answered packet is noise by that packet's nodes
-pub packet-nodes : {A : Type 0} (nodes : A → List ℕ) (o : Outcome A) (s : List ℕ) (p : ScanDataPacket) → onOk (nodesAt s) (outcomeOf (answer.Packet p)) ≡ onOk nodes o
-    → (a : A) × (ok a ≡ o) × (nodesAt s p ≡ nodes a) × ((mz : Float) → noiseAt mz (nodesOf (nodesAt s p)) ≡ noiseAt mz (nodesOf (nodes a)))
-packet-nodes nodes o s p h =
-    let m = made-of nodes o h in
-    (m .value, m .is, m .made, λ mz. ap (λ (bs : List ℕ). noiseAt mz (nodesOf bs)) (m .made))
+-- A reader's promise says that the nodes at the places which it answers are those that it read. So noise by an answered packet is noise by
+-- that packet's nodes
+pub packet-nodes : {L : Type 0} (o : Outcome ((ScanDataPacket × List ℕ) × L)) (s : List ℕ) (p : ScanDataPacket) → withNodes s (answer.Packet p) ≡ onOk (λ (v : (ScanDataPacket × List ℕ) × L). v .0) o
+    → (v : (ScanDataPacket × List ℕ) × L) × (ok v ≡ o) × (nodesAt s p ≡ v .0 .1) × ((mz : Float) → noiseAt mz (nodesOf (nodesAt s p)) ≡ noiseAt mz (nodesOf (v .0 .1)))
+packet-nodes {L} o s p h =
+    let m = made-of (λ (v : (ScanDataPacket × List ℕ) × L). v .0) o h in
+    let nodes = ap (λ (q : ScanDataPacket × List ℕ). q .1) (m .made) in
+    (m .value, m .is, nodes, λ mz. ap (λ (bs : List ℕ). noiseAt mz (nodesOf bs)) nodes)
 
 -- A packet that was answered on s is also the answer on s ++ t, with the same outcome o (`packet-longer`, `skip-profile-longer`). Its nodes
 -- are the same there, and so are noise and labels, which go by them alone
-pub longer-nodes : {A : Type 0} (nodes : A → List ℕ) (o : Outcome A) (s t : List ℕ) (p : ScanDataPacket) → onOk (nodesAt s) (outcomeOf (answer.Packet p)) ≡ onOk nodes o
-    → onOk (nodesAt (s ++ t)) (outcomeOf (answer.Packet p)) ≡ onOk nodes o → nodesAt (s ++ t) p ≡ nodesAt s p
-longer-nodes nodes o s t p h k = let e : ok (nodesAt (s ++ t) p) ≡ ok (nodesAt s p) = k ∙ sym h in cc
+pub longer-nodes : (o : Outcome (ScanDataPacket × List ℕ)) (s t : List ℕ) (p : ScanDataPacket) → withNodes s (answer.Packet p) ≡ o → withNodes (s ++ t) (answer.Packet p) ≡ o
+    → nodesAt (s ++ t) p ≡ nodesAt s p
+longer-nodes o s t p h k =
+    let e : _≡_ {A = Outcome (ScanDataPacket × List ℕ)} (ok (p, nodesAt (s ++ t) p)) (ok (p, nodesAt s p)) = k ∙ sym h in
+    let f : _≡_ {A = ScanDataPacket × List ℕ} (p, nodesAt (s ++ t) p) (p, nodesAt s p) = cc in
+    ap (λ (q : ScanDataPacket × List ℕ). q .1) f

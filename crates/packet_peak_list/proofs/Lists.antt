@@ -10,7 +10,7 @@ use lib.ListN.{length}
 use borrow.Author.Tests.{le-leb, lt-leb, eq-eqb, ne-eqb, eqb-true}
 use Rattle.refusal.specs.Outcome.{ok, ranOut}
 use Rattle.lists.proofs.Laws.{each-none, each-same}
-use Rattle.parser.specs.Parser.{parsed, bytes, littleEndian, left, within, parse, word, _>>=_}
+use Rattle.parser.specs.Parser.{parsed, bytes, littleEndian, left, within, Parser, parse, word, counted, _>>=_}
 use Rattle.parser.specs.Call.{outcome}
 use Rattle.parser.specs.Internal.{Sized, value}
 use Rattle.lists.proofs.Cases.{bool-cases}
@@ -19,7 +19,7 @@ use Rattle.parser.proofs.Fixed.{parse-sized, parse-stage, sized-word, sized-cou
 use Rattle.packet_header.specs.declared.PacketHeader.{PacketHeader}
 use Rattle.peaks.specs.Peaks.{Peak, peak, peakAt, peaksAt}
 use Rattle.peaks.proofs.Columns.{length-peaks}
-use Rattle.packet_peak_list.specs.PeakList.{isWide, itemSize, counted, peakList, countWord, listSize, readPeaks}
+use Rattle.packet_peak_list.specs.PeakList.{isWide, itemSize, peakList, listPlace, readPeaks}
 
 peak-sized : (wide : Bool) → Sized (itemSize wide) (peak wide)
 unfolding peak
@@ -31,28 +31,32 @@ unfolding peak
 peak-value true s at off = rw (add-assoc at off 8)
 peak-value false s at off = rw (add-assoc at off 4)
 
-pub counted-sized : (wide : Bool) (n : ℕ) → Sized (n * itemSize wide) (counted wide n)
+-- so many peaks
+abbrev pub peaks : Bool → ℕ → Parser (List Peak)
+peaks wide n = counted n (itemSize wide) (peak wide)
+
+pub peaks-sized : (wide : Bool) (n : ℕ) → Sized (n * itemSize wide) (peaks wide n)
 unfolding counted
-counted-sized wide n = sized-counted (itemSize wide) (peak wide) (peak-sized wide) n
+peaks-sized wide n = sized-counted (itemSize wide) (peak wide) (peak-sized wide) n
 
 module _ (wide : Bool) (s : List ℕ) where
-  counted-value : (n at : ℕ) → value (counted wide n) s at 0 ≡ peaksAt wide (itemSize wide) s at n
+  peaks-value : (n at : ℕ) → value (peaks wide n) s at 0 ≡ peaksAt wide (itemSize wide) s at n
   unfolding counted peaksAt
-  counted-value n at =
+  peaks-value n at =
       value-each (itemSize wide) (peak wide) (peak-sized wide) n s at 0
       ∙ each-same _ _ n (λ i. ap (value (peak wide) s at) (zero-add (i * itemSize wide)) ∙ peak-value wide s at (i * itemSize wide))
 
-  parse-counted : (n at : ℕ)
-      → parse (counted wide n) s at ≡ within (leb (n * itemSize wide) (left s at)) (parsed (peaksAt wide (itemSize wide) s at n) (at + n * itemSize wide))
-  parse-counted n at = parse-sized (n * itemSize wide) (counted wide n) (counted-sized wide n) s at ∙ rw (counted-value n at)
+  parse-peaks : (n at : ℕ)
+      → parse (peaks wide n) s at ≡ within (leb (n * itemSize wide) (left s at)) (parsed (peaksAt wide (itemSize wide) s at n) (at + n * itemSize wide))
+  parse-peaks n at = parse-sized (n * itemSize wide) (peaks wide n) (peaks-sized wide n) s at ∙ rw (peaks-value n at)
 
   -- the count word, and the peaks
   parse-list : (n at : ℕ) → n ≡ littleEndian (bytes s at 4)
-      → parse (word 4 >>= counted wide) s at
+      → parse (word 4 >>= peaks wide) s at
       ≡ within (leb 4 (left s at)) (within (leb (n * itemSize wide) (left s (at + 4))) (parsed (peaksAt wide (itemSize wide) s (at + 4) n) (at + 4 + n * itemSize wide)))
   parse-list n at e =
       let place : at + 0 ≡ at = add-zero at in
-      parse-stage 4 (word 4) (counted wide) (sized-word 4) s at ∙ rw (place, ← e, parse-counted n (at + 4))
+      parse-stage 4 (word 4) (peaks wide) (sized-word 4) s at ∙ rw (place, ← e, parse-peaks n (at + 4))
 
 -- what the list of a header is, by the tests that decide it
 module _ (h : PacketHeader) (s : List ℕ) (at : ℕ) (wide : Bool) (w : wide ≡ isWide (h .layout)) where
@@ -62,7 +66,7 @@ module _ (h : PacketHeader) (s : List ℕ) (at : ℕ) (wide : Bool) (w : wide �
 
   pub no-list : h .«peak_list_size» ≡ 0 → ok (record { at = at; count = 0; wide = wide; next = at }) ≡ readPeaks h at s
   unfolding readPeaks outcome
-  no-list e = rw (parse-none e, ← w, length-peaks wide (itemSize wide) s at 0, eq-eqb (h .«peak_list_size») 0 e, add-zero at)
+  no-list e = rw (parse-none e, ← w, length-peaks wide (itemSize wide) s at 0, eq-eqb (h .«peak_list_size») 0 e, add-zero at, zero-mul (itemSize wide), add-zero at)
 
   module _ (some : h .«peak_list_size» ≡ 0 → ⊥) where
     pub short-count : left s at < 4 → ranOut 4 ≡ readPeaks h at s
@@ -82,8 +86,8 @@ module _ (h : PacketHeader) (s : List ℕ) (at : ℕ) (wide : Bool) (w : wide �
 
 -- a list that was parsed: its peaks stand after its count word, and end it
 pub record Listed (h : PacketHeader) (s : List ℕ) (at : ℕ) (peaks : List Peak) (next : ℕ) : Type 0 where
-  pub stand : peaks ≡ peaksAt (isWide (h .layout)) (itemSize (isWide (h .layout))) s (at + countWord h) (length peaks)
-  pub end : next ≡ at + listSize h peaks
+  pub stand : peaks ≡ peaksAt (isWide (h .layout)) (itemSize (isWide (h .layout))) s (listPlace h at peaks .at) (length peaks)
+  pub end : next ≡ listPlace h at peaks .next
 
 pub listed : (h : PacketHeader) (s : List ℕ) (at : ℕ) {peaks : List Peak} {next : ℕ} → parse (peakList h) s at ≡ parsed peaks next → Listed h s at peaks next
 unfolding peakList
@@ -96,7 +100,7 @@ listed h s at {peaks} {next} e =
     let a : peaks ≡ peaksAt wide z s at 0 = cc in
     let b : next ≡ at = cc in
     let size : length peaks ≡ 0 = ap length a ∙ length-peaks wide z s at 0 in
-    record { stand = a ∙ rw (t, size, add-zero at); end = b ∙ rw (t, size, zero-mul z, add-zero 0, add-zero at) })
+    record { stand = a ∙ rw (t, size, add-zero at); end = b ∙ rw (t, size, zero-mul z, add-zero at, add-zero at) })
     (λ (t : eqb (h .«peak_list_size») 0 ≡ false).
     let n = littleEndian (bytes s at 4) in
     let o = within-parsed (leb 4 (left s at)) _ (sym (parse-list wide s n at refl) ∙ rw t at e) in
@@ -104,5 +108,5 @@ listed h s at {peaks} {next} e =
     let a : peaks ≡ peaksAt wide z s (at + 4) n = cc (i .1) in
     let b : next ≡ at + 4 + n * z = cc (i .1) in
     let size : length peaks ≡ n = ap length a ∙ length-peaks wide z s (at + 4) n in
-    record { stand = a ∙ rw (t, size); end = b ∙ rw (t, size, add-assoc at 4 (n * z)) })
+    record { stand = a ∙ rw (t, size); end = b ∙ rw (t, size) })
     (bool-cases (eqb (h .«peak_list_size») 0))

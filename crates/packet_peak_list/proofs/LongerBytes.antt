@@ -23,9 +23,9 @@ use Rattle.refusal.specs.Number.{outcomeOfCount}
 use Rattle.refusal.proofs.OneAnswer.{count-one}
 use Rattle.lists.specs.Left.{columns, pairsIfFit, LeftPairs}
 use Rattle.peaks.specs.Peaks.{Peak}
-use Rattle.packet_peak_list.specs.PeakList.{isWide, itemSize, counted, peakList, located, readPeaks, outcomeOfList, skipping, both, skipToPeaks, outcomeOfSkipped, readPeaksOnly}
-use Rattle.packet_peak_list.proofs.Lists.{counted-sized}
-use Rattle.packet_peak_list.proofs.Skipping.{paired, rest}
+use Rattle.packet_peak_list.specs.PeakList.{isWide, itemSize, peakList, listPlace, readPeaks, outcomeOfList, skipping, skipToPeaks, outcomeOfSkipped, readPeaksOnly}
+use Rattle.packet_peak_list.proofs.Lists.{peaks, peaks-sized}
+use Rattle.packet_peak_list.proofs.Skipping.{answered, paired, rest}
 use Rattle.packet_peak_list.proofs.OneAnswer.{list-answer-one, skipped-answer-one}
 
 item-most : (wide : Bool) → itemSize wide ≤ 12
@@ -34,15 +34,15 @@ item-most false = lit≤ tt
 
 -- a list of peaks asks for at most 4 + 2^36 bytes, and one of size 0 for none
 module _ (far : ℕ) where
-  counted-demand : (wide : Bool) (n : ℕ) → n < 256 ^ 4 → DemandBound far (2 ^ 36) Any (counted wide n)
-  counted-demand wide n h =
-      demand-more far (n * itemSize wide) (2 ^ 36) (counted wide n) Any (omega (arith, mul-le-mul-left n (item-most wide))) (demand-sized far (n * itemSize wide) (counted wide n) (counted-sized wide n))
+  peaks-demand : (wide : Bool) (n : ℕ) → n < 256 ^ 4 → DemandBound far (2 ^ 36) Any (peaks wide n)
+  peaks-demand wide n h =
+      demand-more far (n * itemSize wide) (2 ^ 36) (peaks wide n) Any (omega (arith, mul-le-mul-left n (item-most wide))) (demand-sized far (n * itemSize wide) (peaks wide n) (peaks-sized wide n))
 
   pub peak-list-demand : (h : PacketHeader) → DemandBound far (4 + 2 ^ 36) Any (peakList h)
   unfolding peakList
   peak-list-demand h =
-      demand-cond far (4 + 2 ^ 36) (eqb (h .«peak_list_size») 0) Any (done []) (word 4 >>= counted (isWide (h .layout))) (demand-done far (4 + 2 ^ 36) Any [] tt)
-      (demand-bind far 4 (2 ^ 36) (λ (n : ℕ). n < 256 ^ 4) Any (counted (isWide (h .layout))) (counted-demand (isWide (h .layout))) (word 4) (demand-word far 4))
+      demand-cond far (4 + 2 ^ 36) (eqb (h .«peak_list_size») 0) Any (done []) (word 4 >>= peaks (isWide (h .layout))) (demand-done far (4 + 2 ^ 36) Any [] tt)
+      (demand-bind far 4 (2 ^ 36) (λ (n : ℕ). n < 256 ^ 4) Any (peaks (isWide (h .layout))) (peaks-demand (isWide (h .layout))) (word 4) (demand-word far 4))
 
   -- the profile is passed over by at most 2^34 bytes
   rest-demand : (h : PacketHeader) → Sizable h → DemandBound far (2 ^ 34 + (4 + 2 ^ 36)) (λ (p : PacketHeader × List Peak). Sizable (p .0)) (rest h)
@@ -87,15 +87,15 @@ module _ (at : ℕ) where
   -- the calls that find
   pub skip-to-peaks-prefix : PrefixProperty (skipToPeaks at)
   unfolding skipToPeaks
-  skip-to-peaks-prefix = prefix-property (single 4 at skipping (λ p next. ok (both at p next)))
+  skip-to-peaks-prefix = prefix-property (single 4 at skipping (λ p next. ok (answered at p next)))
 
   pub skip-to-peaks-names : Names (λ q. q ≡ 4) (skipToPeaks at)
   unfolding skipToPeaks
-  skip-to-peaks-names = only-part 4 at skipping (λ p next. ok (both at p next)) (λ _ _. tt)
+  skip-to-peaks-names = only-part 4 at skipping (λ p next. ok (answered at p next)) (λ _ _. tt)
 
   pub skip-to-peaks-completes : Completes 4 at (skipToPeaks at)
   unfolding skipToPeaks
-  skip-to-peaks-completes = single-completes 4 at skipping (λ p next. ok (both at p next)) skipping-bounded (λ _ _. tt)
+  skip-to-peaks-completes = single-completes 4 at skipping (λ p next. ok (answered at p next)) skipping-bounded (λ _ _. tt)
 
   pub skip-to-peaks-longer : OnLongerBytes outcomeOfSkipped (λ s r (_ : Unit {0}). outcomeOfSkipped r ≡ skipToPeaks at s) (λ q. q ≡ 4) (λ _ _. at < 2 ^ 62)
   skip-to-peaks-longer =
@@ -105,16 +105,16 @@ module _ (at : ℕ) where
   module _ (h : PacketHeader) where
     pub peak-list-prefix : PrefixProperty (readPeaks h at)
     unfolding readPeaks
-    peak-list-prefix = prefix-property (single 4 at (peakList h) (λ peaks next. ok (located h at peaks next)))
+    peak-list-prefix = prefix-property (single 4 at (peakList h) (λ peaks _. ok (listPlace h at peaks)))
 
     pub peak-list-names : Names (λ q. q ≡ 4) (readPeaks h at)
     unfolding readPeaks
-    peak-list-names = only-part 4 at (peakList h) (λ peaks next. ok (located h at peaks next)) (λ _ _. tt)
+    peak-list-names = only-part 4 at (peakList h) (λ peaks _. ok (listPlace h at peaks)) (λ _ _. tt)
 
     pub peak-list-completes : Completes 4 at (readPeaks h at)
     unfolding readPeaks
     peak-list-completes =
-        single-completes 4 at (peakList h) (λ peaks next. ok (located h at peaks next))
+        single-completes 4 at (peakList h) (λ peaks _. ok (listPlace h at peaks))
         (bounded-more (2 ^ 62) (4 + 2 ^ 36) (2 ^ 61) (peakList h) (lit≤ tt) (peak-list-demand (2 ^ 62) h .bounded)) (λ _ _. tt)
 
     pub peak-list-longer : OnLongerBytes outcomeOfList (λ s r (_ : Unit {0}). outcomeOfList r ≡ readPeaks h at s) (λ q. q ≡ 4) (λ _ _. at < 2 ^ 62)

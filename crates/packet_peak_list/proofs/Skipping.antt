@@ -1,5 +1,5 @@
 -- The header, the profile that is passed over, and the list: what was found stage by stage is what `skipping` finds.
-use mathlib.Core.Path.{_≡_, ap, sym, subst, _∙_}
+use mathlib.Core.Path.{_≡_, refl, ap, sym, subst, _∙_}
 use Prim.Native.Nat.{ℕ, _+_, _*_, _≤_, _<_}
 use mathlib.Core.List.{List}
 use lib.Dec.{leb}
@@ -15,10 +15,14 @@ use Rattle.packet_header.specs.declared.PacketHeader.{PacketHeader}
 use Rattle.packet_header.proofs.Size.{header-sized, header-read, header-ran-out}
 use Rattle.lists.specs.Left.{pairsIfFit}
 use Rattle.peaks.specs.Peaks.{Peak, peaksAt}
-use Rattle.packet_peak_list.specs.PeakList.{itemSize, peakList, listSize, located, readPeaks, skipping, afterSkipped, both, skipToPeaks, readPeaksOnly}
+use Rattle.packet_peak_list.specs.PeakList.{itemSize, peakList, listPlace, readPeaks, skipping, afterSkipped, skipToPeaks, readPeaksOnly}
 use Rattle.packet_peak_list.specs.declared.PeakList.{PeakList}
 use Rattle.packet_peak_list.specs.declared.HeaderAndPeaks.{HeaderAndPeaks}
 use Rattle.packet_peak_list.proofs.Lists.{listed}
+
+-- what is answered of a packet that was found
+abbrev pub answered : ℕ → PacketHeader × List Peak → ℕ → HeaderAndPeaks
+answered at p _ = record { header = p .0; list = listPlace (p .0) (afterSkipped (p .0) at) (p .1) }
 
 -- what follows the list, and what follows the header
 abbrev pub paired : PacketHeader → List Peak → Parser (PacketHeader × List Peak)
@@ -49,13 +53,13 @@ module _ (s : List ℕ) (at : ℕ) where
       pub skip-list-short : {n : ℕ} {carries : List ℕ} → refused n carries ≡ readPeaks h (at + 40 + h .«profile_size» * 4) s → ranOut 4 ≡ skipToPeaks at s
       unfolding skipToPeaks outcome readPeaks
       skip-list-short f =
-          let none = ran-out 4 (at + 40 + h .«profile_size» * 4) (peakList h) (located h (afterSkipped h at)) s f .there in
+          let none = ran-out 4 (at + 40 + h .«profile_size» * 4) (peakList h) (λ ps _. listPlace h (afterSkipped h at) ps) s f .there in
           rw (to-list, parse-bind (peakList h) (paired h) s (at + 40 + h .«profile_size» * 4), none)
 
       pub skip-found : {l : PeakList} → ok l ≡ readPeaks h (at + 40 + h .«profile_size» * 4) s → ok (record { header = h; list = l }) ≡ skipToPeaks at s
       unfolding skipToPeaks outcome readPeaks parse
       skip-found {l} f =
-          let w = found 4 (at + 40 + h .«profile_size» * 4) (peakList h) (located h (afterSkipped h at)) s f in
+          let w = found 4 (at + 40 + h .«profile_size» * 4) (peakList h) (λ ps _. listPlace h (afterSkipped h at) ps) s f in
           ap (λ (m : PeakList). ok (record { header = h; list = m })) (w .made)
           ∙ rw (to-list, parse-bind (peakList h) (paired h) s (at + 40 + h .«profile_size» * 4), w .there)
 
@@ -63,13 +67,13 @@ module _ (s : List ℕ) (at : ℕ) where
 pub record Skipped (s : List ℕ) (at : ℕ) (p : HeaderAndPeaks) : Type 0 where
   pub peaks : List Peak
   pub there : parse skipping s at ≡ parsed (p .header, peaks) (p .list .next)
-  pub is : let start = afterSkipped (p .header) at in p .list ≡ located (p .header) start peaks (start + listSize (p .header) peaks)
+  pub is : p .list ≡ listPlace (p .header) (afterSkipped (p .header) at) peaks
   pub stand : peaks ≡ peaksAt (p .list .wide) (itemSize (p .list .wide)) s (p .list .at) (p .list .count)
 
 pub skipped-of : (s : List ℕ) (at : ℕ) {p : HeaderAndPeaks} → ok p ≡ skipToPeaks at s → Skipped s at p
 unfolding skipToPeaks skipping rest parse
 skipped-of s at {p} e =
-    let f = found 4 at skipping (both at) s e in
+    let f = found 4 at skipping (answered at) s e in
     let h = parts header rest s at (f .there) in
     let head = within-parsed (leb 40 (left s at)) _ (sym (parse-sized 40 header header-sized s at) ∙ h .here) in
     let size = h .first .«profile_size» * 4 in
@@ -82,11 +86,11 @@ skipped-of s at {p} e =
     let start : r .middle ≡ afterSkipped (h .first) at = cc (passed .1) ∙ ap (λ (k : ℕ). k + size) m in
     let here = subst (λ (k : ℕ). parse (peakList (h .first)) s k ≡ parsed (l .first) (l .middle)) start (l .here) in
     let w = listed (h .first) s (afterSkipped (h .first) at) here in
-    subst (Skipped s at) (sym (f .made ∙ ap (λ (w : PacketHeader × List Peak). both at w (f .next)) v))
+    subst (Skipped s at) (sym (f .made ∙ ap (λ (w : PacketHeader × List Peak). answered at w (f .next)) v))
     (record {
       peaks = l .first;
-      there = f .there ∙ ap (λ (w : PacketHeader × List Peak). parsed w (f .next)) v;
-      is = ap (located (h .first) (afterSkipped (h .first) at) (l .first)) (n ∙ w .end);
+      there = f .there ∙ ap (λ (w : PacketHeader × List Peak). parsed w (f .next)) v ∙ ap (parsed (h .first, l .first)) (n ∙ w .end);
+      is = refl;
       stand = w .stand;
     })
 
@@ -98,4 +102,4 @@ peaks-only s at m a size e z = let k = skipped-of s at e in rw (z, k .there) (sy
 
 pub peaks-only-short : (s : List ℕ) (at m a : ℕ) {n : ℕ} {carries : List ℕ} → refused n carries ≡ skipToPeaks at s → refused n carries ≡ readPeaksOnly m a at s
 unfolding readPeaksOnly skipToPeaks outcome
-peaks-only-short s at m a e = let w = ran-out 4 at skipping (both at) s e in rw (w .one, w .part, w .there)
+peaks-only-short s at m a e = let w = ran-out 4 at skipping (answered at) s e in rw (w .one, w .part, w .there)

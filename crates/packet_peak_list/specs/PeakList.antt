@@ -6,7 +6,7 @@ use lib.Dec.{eqb}
 use lib.ListN.{length}
 use Rattle.refusal.specs.Outcome.{Outcome, ok}
 use Rattle.refusal.specs.Number.{outcomeOfRefusal}
-use Rattle.parser.specs.Parser.{Parser, done, _>>=_, _>>_, word, skip, checkCount, repeat}
+use Rattle.parser.specs.Parser.{Parser, done, _>>=_, _>>_, word, skip, counted}
 use Rattle.parser.specs.Call.{outcome, single}
 use Rattle.packet_header.specs.Header.{header}
 use Rattle.packet_header.specs.declared.PacketHeader.{PacketHeader}
@@ -27,29 +27,19 @@ abbrev pub itemSize : Bool → ℕ
 itemSize true = 12
 itemSize false = 8
 
-unfoldable pub counted : Bool → ℕ → Parser (List Peak)
-counted wide count = do
-  checkCount count (itemSize wide)
-  repeat count (peak wide)
-
 -- a peak list of size 0 has no count word
 unfoldable pub peakList : PacketHeader → Parser (List Peak)
-peakList h = cond (eqb (h .«peak_list_size») 0) (done []) (word 4 >>= counted (isWide (h .layout)))
+peakList h = cond (eqb (h .«peak_list_size») 0) (done []) (word 4 >>= λ n. counted n (itemSize (isWide (h .layout))) (peak (isWide (h .layout))))
 
-abbrev pub countWord : PacketHeader → ℕ
-countWord h = cond (eqb (h .«peak_list_size») 0) 0 4
-
--- how many bytes it takes
-abbrev pub listSize : PacketHeader → List Peak → ℕ
-listSize h peaks = countWord h + length peaks * itemSize (isWide (h .layout))
-
--- where the peaks of the list at `at` stand, which ends at `next`
-abbrev pub located : PacketHeader → ℕ → List Peak → ℕ → PeakList
-located h at peaks next = record { at = at + countWord h; count = length peaks; wide = isWide (h .layout); next = next }
+-- where the peaks of the list at `at` stand, after its count word, and the place after them
+abbrev pub listPlace : PacketHeader → ℕ → List Peak → PeakList
+listPlace h at peaks =
+    let first = at + cond (eqb (h .«peak_list_size») 0) 0 4 in
+    record { at = first; count = length peaks; wide = isWide (h .layout); next = first + length peaks * itemSize (isWide (h .layout)) }
 
 -- what `read_peaks` answers
 unfoldable pub readPeaks : PacketHeader → ℕ → List ℕ → Outcome PeakList
-readPeaks h at run = outcome (single 4 at (peakList h) (λ peaks next. ok (located h at peaks next))) run
+readPeaks h at run = outcome (single 4 at (peakList h) (λ peaks _. ok (listPlace h at peaks))) run
 
 abbrev pub outcomeOfList : PeakListAnswer → Outcome PeakList
 outcomeOfList (list.List l) = ok l
@@ -67,12 +57,9 @@ skipping = do
 abbrev pub afterSkipped : PacketHeader → ℕ → ℕ
 afterSkipped h at = at + 40 + h .«profile_size» * 4
 
-abbrev pub both : ℕ → PacketHeader × List Peak → ℕ → HeaderAndPeaks
-both at p next = record { header = p .0; list = located (p .0) (afterSkipped (p .0) at) (p .1) next }
-
 -- what `skip_to_peaks` answers
 unfoldable pub skipToPeaks : ℕ → List ℕ → Outcome HeaderAndPeaks
-skipToPeaks at run = outcome (single 4 at skipping (λ p next. ok (both at p next))) run
+skipToPeaks at run = outcome (single 4 at skipping (λ p _. ok (record { header = p .0; list = listPlace (p .0) (afterSkipped (p .0) at) (p .1) }))) run
 
 abbrev pub outcomeOfSkipped : SkippedAnswer → Outcome HeaderAndPeaks
 outcomeOfSkipped (skipped.Packet p) = ok p

@@ -9,43 +9,41 @@ use Rattle.parser.specs.LongerBytes.{OnLongerBytes, PrefixProperty, Names, Comp
 use Rattle.parser.proofs.Completion.{Bounded, bounded-more}
 use Rattle.parser.proofs.DemandBound.{DemandBound, Any, demand-done, demand-cond, demand-bind}
 use Rattle.parser.proofs.Calls.{prefix-property, only-part, single-completes}
-use Rattle.parser.proofs.OnLongerBytes.{one-part, plain-longer}
 use Rattle.packet_header.specs.Header.{header}
 use Rattle.packet_header.specs.declared.PacketHeader.{PacketHeader}
 use Rattle.packet_header.proofs.LongerBytes.{Sizable, header-demand}
 use Rattle.packet_peak_list.specs.PeakList.{peakList}
 use Rattle.packet_peak_list.proofs.LongerBytes.{peak-list-demand}
-use Rattle.packet_labels.proofs.LongerBytes.{longer-and}
+use Rattle.packet_labels.proofs.LongerBytes as labels
 use Rattle.packet_profile.specs.Profile.{profile}
 use Rattle.packet_profile.proofs.LongerBytes.{profile-demand}
-use Rattle.packet_record.specs.Packet.{absent, present, afterPeaks}
-use Rattle.packet_record.specs.Places.{outcomeOfPlaces}
+use Rattle.packet_record.specs.Packet.{absent, present, afterPeaks, contentsAt, outcomeOfPlaces}
 use Rattle.packet_record.proofs.LongerBytes.{after-demand}
 use Rattle.packet_record.proofs.OneAnswer.{places-answer-one}
-use Rattle.packet_places.specs.Packet.{stored, packet}
-use Rattle.packet_places.specs.Places.{fullPlaces, findPlaces, listsAt, findLists}
-use Rattle.packet_places.proofs.Stages.{keep, afterStored, rest}
+use Rattle.packet_places.specs.Packet.{optionalProfile, packet}
+use Rattle.packet_places.specs.Places.{packetPlaces, findPlaces}
+use Rattle.packet_places.proofs.Stages.{keep, afterProfile, rest}
 
 -- at most so many bytes after the end
 abbrev pub most : ℕ
 most = 40 + (24 + 2 ^ 37 + (4 + 2 ^ 36 + 3 * 2 ^ 34))
 
 module _ (far : ℕ) where
-  stored-demand : (h : PacketHeader) → DemandBound far (24 + 2 ^ 37) Any (stored h)
-  unfolding stored keep
-  stored-demand h =
+  profile-part-demand : (h : PacketHeader) → DemandBound far (24 + 2 ^ 37) Any (optionalProfile h)
+  unfolding optionalProfile keep
+  profile-part-demand h =
       demand-cond far (24 + 2 ^ 37) (eqb (h .«profile_size») 0) Any (done absent) (profile (h .layout) >>= keep) (demand-done far (24 + 2 ^ 37) Any absent tt)
       (demand-bind far (24 + 2 ^ 37) 0 Any Any keep (λ p _. demand-done far 0 Any (present p) tt) (profile (h .layout)) (profile-demand far (h .layout)))
 
   rest-demand : (h : PacketHeader) → Sizable h → DemandBound far (24 + 2 ^ 37 + (4 + 2 ^ 36 + 3 * 2 ^ 34)) Any (rest h)
-  unfolding rest afterStored
+  unfolding rest afterProfile
   rest-demand h size =
-      demand-bind far (24 + 2 ^ 37) (4 + 2 ^ 36 + 3 * 2 ^ 34) Any Any (afterStored h)
+      demand-bind far (24 + 2 ^ 37) (4 + 2 ^ 36 + 3 * 2 ^ 34) Any Any (afterProfile h)
       (λ p _. demand-bind far (4 + 2 ^ 36) (3 * 2 ^ 34) Any Any (afterPeaks h p) (λ peaks _. after-demand far h size p peaks) (peakList h) (peak-list-demand far h))
-      (stored h) (stored-demand h)
+      (optionalProfile h) (profile-part-demand h)
 
   pub packet-demand : DemandBound far most Any packet
-  unfolding packet rest afterStored
+  unfolding packet rest afterProfile
   packet-demand = demand-bind far 40 (24 + 2 ^ 37 + (4 + 2 ^ 36 + 3 * 2 ^ 34)) Sizable Any rest rest-demand header (header-demand far)
 
 pub packet-bounded : Bounded (2 ^ 62) (2 ^ 61) packet
@@ -54,18 +52,15 @@ packet-bounded = bounded-more (2 ^ 62) most (2 ^ 61) packet (lit≤ tt) (packet-
 module _ (at : ℕ) where
   pub places-prefix : PrefixProperty (findPlaces at)
   unfolding findPlaces
-  places-prefix = prefix-property (single 4 at packet (λ p next. ok (fullPlaces at p next)))
+  places-prefix = prefix-property (single 4 at packet (λ p _. ok (packetPlaces at p, p .contents)))
 
   pub places-names : Names (λ q. q ≡ 4) (findPlaces at)
   unfolding findPlaces
-  places-names = only-part 4 at packet (λ p next. ok (fullPlaces at p next)) (λ _ _. tt)
+  places-names = only-part 4 at packet (λ p _. ok (packetPlaces at p, p .contents)) (λ _ _. tt)
 
   pub places-completes : Completes 4 at (findPlaces at)
   unfolding findPlaces
-  places-completes = single-completes 4 at packet (λ p next. ok (fullPlaces at p next)) packet-bounded (λ _ _. tt)
+  places-completes = single-completes 4 at packet (λ p _. ok (packetPlaces at p, p .contents)) packet-bounded (λ _ _. tt)
 
-  pub places-longer : OnLongerBytes outcomeOfPlaces (λ s r (_ : Unit {0}). (outcomeOfPlaces r ≡ findPlaces at s) × (onOk (listsAt s) (outcomeOfPlaces r) ≡ findLists at s)) (λ q. q ≡ 4) (λ _ _. at < 2 ^ 62)
-  places-longer =
-      longer-and (λ s r. onOk (listsAt s) (outcomeOfPlaces r) ≡ findLists at s)
-      (plain-longer outcomeOfPlaces places-answer-one (findPlaces at) places-prefix (λ q. q ≡ 4) (λ _ _. at < 2 ^ 62) places-names
-      (one-part 4 at (findPlaces at) places-names places-completes))
+  pub places-longer : OnLongerBytes outcomeOfPlaces (λ s r (_ : Unit {0}). onOk (λ v. (v, contentsAt s v)) (outcomeOfPlaces r) ≡ findPlaces at s) (λ q. q ≡ 4) (λ _ _. at < 2 ^ 62)
+  places-longer = labels.places-longer outcomeOfPlaces places-answer-one contentsAt (findPlaces at) places-prefix 4 at places-names places-completes

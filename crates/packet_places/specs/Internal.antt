@@ -7,24 +7,24 @@ use Rattle.parser.specs.Call.{outcome, single}
 use Rattle.packet_header.specs.Header.{readHeader}
 use Rattle.packet_header.specs.declared.PacketHeader.{PacketHeader}
 use Rattle.packet_peak_list.specs.PeakList.{readPeaks}
-use Rattle.packet_record.specs.Packet.{describeProfile}
-use Rattle.packet_record.specs.Places.{withLabels}
+use Rattle.packet_labels.specs.Labels.{Streams}
+use Rattle.packet_record.specs.Packet.{profilePlace, withLabels}
 use Rattle.packet_record.specs.declared.PacketProfile.{PacketProfile}
 use Rattle.packet_record.specs.declared.Places.{Places}
-use Rattle.packet_places.specs.Packet.{stored}
+use Rattle.packet_places.specs.Packet.{optionalProfile}
 use Rattle.packet_places.specs.declared.FoundProfile.{FoundProfile}
 use Rattle.packet_places.specs.declared.FoundProfile.the-variants as profile
 
 -- the profile after the header, and the place after it
 unfoldable pub findProfile : PacketHeader → ℕ → List ℕ → Outcome (PacketProfile × ℕ)
-findProfile h at s = outcome (single 4 (at + 40) (stored h) (λ p next. ok (describeProfile (h .layout) at p, next))) s
+findProfile h at s = outcome (single 4 (at + 40) (optionalProfile h) (λ p next. ok (profilePlace (h .layout) at p, next))) s
 
 abbrev pub outcomeOfProfile : FoundProfile → Outcome (PacketProfile × ℕ)
 outcomeOfProfile (profile.Found p next) = ok (p, next)
 outcomeOfProfile (profile.Refused r) = outcomeOfRefusal r
 
-unfoldable pub afterHeader : PacketHeader → ℕ → List ℕ → Outcome Places
+unfoldable pub afterHeader : PacketHeader → ℕ → List ℕ → Outcome (Places × Streams)
 afterHeader h at s = andThen (findProfile h at s) (λ p. andThen (readPeaks h (p .1) s) (λ list. withLabels h (p .0) list s))
 
-unfoldable pub inTurn : ℕ → List ℕ → Outcome Places
+unfoldable pub inTurn : ℕ → List ℕ → Outcome (Places × Streams)
 inTurn at s = andThen (readHeader at s) (λ h. afterHeader h at s)

@@ -7,19 +7,19 @@ use Rattle.packet_header.specs.Header.{header}
 use Rattle.packet_header.specs.declared.PacketHeader.{PacketHeader}
 use Rattle.packet_peak_list.specs.PeakList.{peakList}
 use Rattle.packet_profile.specs.Profile.{profile, profileSize}
-use Rattle.packet_record.specs.Packet.{Stored, absent, present, Packet, afterPeaks}
+use Rattle.packet_record.specs.Packet.{OptionalProfile, absent, present, Packet, afterPeaks}
 
 -- a profile of size 0 is none. Any other is as long as its chunks, whatever its size says
-unfoldable pub stored : PacketHeader → Parser Stored
-stored h = cond (eqb (h .«profile_size») 0) (done absent) (profile (h .layout) >>= λ p. done (present p))
+unfoldable pub optionalProfile : PacketHeader → Parser OptionalProfile
+optionalProfile h = cond (eqb (h .«profile_size») 0) (done absent) (profile (h .layout) >>= λ p. done (present p))
 
-abbrev pub storedSize : PacketHeader → Stored → ℕ
-storedSize h absent = 0
-storedSize h (present p) = profileSize (h .layout) p
+abbrev pub optionalSize : PacketHeader → OptionalProfile → ℕ
+optionalSize h absent = 0
+optionalSize h (present p) = profileSize (h .layout) p
 
 unfoldable pub packet : Parser Packet
 packet = do
   h ← header
-  p ← stored h
+  p ← optionalProfile h
   peaks ← peakList h
   afterPeaks h p peaks

@@ -4,8 +4,9 @@ ghost use mathlib.Core.Path.{_≡_};
 ghost use Prim.Native.Nat.{_≤_};
 ghost use Rattle.parser.specs.Parser.{left};
 ghost use Rattle.refusal.specs.Outcome.{onOk};
-ghost use Rattle.packet_record.specs.Places.{outcomeOfPlaces};
-ghost use Rattle.packet_places.specs.Places.{findPlaces, listsAt, findLists};
+ghost use Rattle.packet_labels.specs.Labels.{streamsAt};
+ghost use Rattle.packet_record.specs.Packet.{contentsAt, outcomeOfPlaces};
+ghost use Rattle.packet_places.specs.Places.{findPlaces};
 ghost use Rattle.packet_places.specs.Internal.{findProfile, outcomeOfProfile, afterHeader};
 use packet_header::HeaderAnswer;
 use packet_header::PacketHeader;
@@ -40,7 +41,7 @@ fn find_profile(run: &[u8], at: u64, h: PacketHeader) -> FoundProfile
 
 fn after_header(run: &[u8], at: u64, h: PacketHeader) -> PlacesAnswer
     requires { ⌜ 40 ≤ left (now run) at ⌝ }
-    ensures { λ r. ⌜ outcomeOfPlaces r ≡ afterHeader h at (now (run .entry)) ⌝ }
+    ensures { λ r. ⌜ onOk (λ v. (v, streamsAt (now (run .entry)) (v .labels))) (outcomeOfPlaces r) ≡ afterHeader h at (now (run .entry)) ⌝ }
 {
     match find_profile(run, at, h) {
         FoundProfile::Refused(r) => PlacesAnswer::Refused(r),
@@ -53,8 +54,7 @@ fn after_header(run: &[u8], at: u64, h: PacketHeader) -> PlacesAnswer
 
 // Where the parts of the packet at a place of the run stand.
 pub fn find_places(run: &[u8], at: u64) -> PlacesAnswer
-    ensures { λ r. ⌜ outcomeOfPlaces r ≡ findPlaces at (now (run .entry)) ⌝ }
-    ensures { λ r. ⌜ onOk (listsAt (now (run .entry))) (outcomeOfPlaces r) ≡ findLists at (now (run .entry)) ⌝ }
+    ensures { λ r. ⌜ onOk (λ v. (v, contentsAt (now (run .entry)) v)) (outcomeOfPlaces r) ≡ findPlaces at (now (run .entry)) ⌝ }
 {
     match PacketHeader::read(run, at) {
         HeaderAnswer::Refused(r) => PlacesAnswer::Refused(r),

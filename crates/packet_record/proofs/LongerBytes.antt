@@ -1,35 +1,37 @@
--- Demand 3 for the labels of a packet, and what a packet asks for after its peak list.
-use mathlib.Core.Path.{_≡_}
+-- Demand 3 for the labels of a packet and for whoever hands one out, and what a packet asks for after its peak list.
+use mathlib.Core.Path.{_≡_, refl, _∙_}
 use Prim.Native.Nat.{ℕ, _*_, _^_, _<_}
-use mathlib.Core.List.{List}
+use mathlib.Core.List.{List, _++_}
 use lib.ListN.{length}
-use Rattle.refusal.specs.Outcome.{onOk}
+use Rattle.refusal.specs.Outcome.{Outcome, ok, refused, onOk}
+use Rattle.lists.specs.Left.{fits, lengths, overAll, Left, listsIfFit}
 use Rattle.parser.specs.LongerBytes.{OnLongerBytes, PrefixProperty, Names, Completes}
+use Rattle.parser.proofs.Calls.{NotTruncated, not-truncated-room}
 use Rattle.parser.proofs.DemandBound.{DemandBound, Any, demand-done, demand-bind}
 use Rattle.parser.proofs.PrefixedBy.{on-ok-prefix, on-ok-out, on-ok-completes}
-use Rattle.parser.proofs.OnLongerBytes.{one-part, plain-longer}
+use Rattle.parser.proofs.OnLongerBytes.{one-part, left-longer}
 use Rattle.packet_header.specs.declared.PacketHeader.{PacketHeader}
 use Rattle.packet_header.proofs.LongerBytes.{Sizable}
 use Rattle.peaks.specs.Peaks.{Peak}
 use Rattle.packet_peak_list.specs.declared.PeakList.{PeakList}
-use Rattle.packet_labels.specs.Labels.{labels, readLabels, readStreams}
+use Rattle.packet_labels.specs.Labels.{Streams, labels, streamsAt, readLabels}
 use Rattle.packet_labels.specs.declared.Labels.{Labels}
-use Rattle.packet_labels.proofs.LongerBytes.{longer-and, labels-demand, labels-prefix, labels-names, labels-completes}
-use Rattle.packet_record.specs.Packet.{Stored, afterPeaks}
-use Rattle.packet_record.specs.Places.{withLabels, outcomeOfPlaces, streamsOf}
+use Rattle.packet_labels.proofs.LongerBytes.{answer-alone, longer-from, places-longer, labels-demand, labels-prefix, labels-names, labels-completes}
+use Rattle.packet_record.specs.Packet.{OptionalProfile, Contents, afterPeaks, withLabels, outcomeOfPlaces, recordOf, listsOf, packetIfFits, outcomeOf, nodesAt, withNodes}
 use Rattle.packet_record.specs.declared.PacketProfile.{PacketProfile}
 use Rattle.packet_record.specs.declared.Places.{Places}
+use Rattle.packet_record.specs.declared.ScanDataPacket.{ScanDataPacket}
 use Rattle.packet_record.proofs.Found.{whole}
-use Rattle.packet_record.proofs.OneAnswer.{places-answer-one}
+use Rattle.packet_record.proofs.OneAnswer.{packet-answer-one, places-answer-one}
 
-pub after-demand : (far : ℕ) (h : PacketHeader) → Sizable h → (profile : Stored) (peaks : List Peak) → DemandBound far (3 * 2 ^ 34) Any (afterPeaks h profile peaks)
+pub after-demand : (far : ℕ) (h : PacketHeader) → Sizable h → (profile : OptionalProfile) (peaks : List Peak) → DemandBound far (3 * 2 ^ 34) Any (afterPeaks h profile peaks)
 unfolding afterPeaks whole
 after-demand far h size profile peaks =
     demand-bind far (3 * 2 ^ 34) 0 Any Any (whole h profile peaks) (λ _ _. demand-done far 0 Any _ tt) (labels h (length peaks)) (labels-demand far h (length peaks) size)
 
 module _ (h : PacketHeader) (profile : PacketProfile) (list : PeakList) where
-  with : Labels → Places
-  with l = record { header = h; profile = profile; list = list; labels = l }
+  with : Labels × Streams → Places × Streams
+  with l = (record { header = h; profile = profile; list = list; labels = l .0 }, l .1)
 
   pub with-labels-prefix : PrefixProperty (withLabels h profile list)
   unfolding withLabels with
@@ -44,10 +46,23 @@ module _ (h : PacketHeader) (profile : PacketProfile) (list : PeakList) where
     unfolding withLabels with
     with-labels-completes = on-ok-completes with (readLabels h (list .count) (list .next)) 4 (list .next) (labels-completes h (list .count) (list .next) size)
 
-    pub with-labels-longer : OnLongerBytes outcomeOfPlaces
-        (λ s r (_ : Unit {0}). (outcomeOfPlaces r ≡ withLabels h profile list s) × (onOk (λ v. streamsOf v s) (outcomeOfPlaces r) ≡ readStreams h (list .count) (list .next) s)) (λ q. q ≡ 4)
+    pub with-labels-longer : OnLongerBytes outcomeOfPlaces (λ s r (_ : Unit {0}). onOk (λ v. (v, streamsAt s (v .labels))) (outcomeOfPlaces r) ≡ withLabels h profile list s) (λ q. q ≡ 4)
         (λ _ _. list .next < 2 ^ 62)
     with-labels-longer =
-        longer-and (λ s r. onOk (λ v. streamsOf v s) (outcomeOfPlaces r) ≡ readStreams h (list .count) (list .next) s)
-        (plain-longer outcomeOfPlaces places-answer-one (withLabels h profile list) with-labels-prefix (λ q. q ≡ 4) (λ _ _. list .next < 2 ^ 62) with-labels-names
-        (one-part 4 (list .next) (withLabels h profile list) with-labels-names with-labels-completes))
+        places-longer outcomeOfPlaces places-answer-one (λ s v. streamsAt s (v .labels)) (withLabels h profile list) with-labels-prefix 4 (list .next) with-labels-names with-labels-completes
+
+-- ---- whoever hands a packet out
+pub fits-not-truncated : (capacities : List ℕ) (v : Places) (c : Contents) (more : List (List ℕ)) → NotTruncated (packetIfFits capacities v c more)
+unfolding packetIfFits listsIfFit
+fits-not-truncated capacities v c more = not-truncated-room (fits (lengths (listsOf c ++ more)) capacities) ((recordOf v, c .labels .nodes), listsOf c ++ more)
+
+firsts-of : {A B C : Type 0} (o : Outcome ((A × B) × C)) → onOk (λ (p : A × B). p .0) (onOk (λ (v : (A × B) × C). v .0) o) ≡ onOk (λ (v : (A × B) × C). v .0 .0) o
+firsts-of (ok v) = refl
+firsts-of (refused n carries) = refl
+
+pub lists-longer : (f : List ℕ → Outcome ((ScanDataPacket × List ℕ) × List (List ℕ))) → PrefixProperty f → (at : ℕ) → Names (λ q. q ≡ 4) f → Completes 4 at f → (xs : List (List ℕ))
+    → OnLongerBytes outcomeOf (λ s r ys. Left (λ v. v .0) (λ v. overAll (v .1)) (f s) xs (withNodes s r) ys) (λ q. q ≡ 4) (λ _ _. at < 2 ^ 62)
+lists-longer f prefix at names completes xs =
+    longer-from (λ s r ys l. record { answered = answer-alone (nodesAt s) (outcomeOf r) (l .answered) ∙ firsts-of (f s); stands = l .stands })
+    (left-longer outcomeOf packet-answer-one f prefix (λ q. q ≡ 4) (λ _ _. at < 2 ^ 62) names (one-part 4 at f names completes)
+    (λ (v : (ScanDataPacket × List ℕ) × List (List ℕ)). v .0 .0) (λ (v : (ScanDataPacket × List ℕ) × List (List ℕ)). overAll (v .1)) xs)

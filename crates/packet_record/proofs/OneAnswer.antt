@@ -1,8 +1,7 @@
 -- An answer is known by what it tells: a promise that is stated through it leaves one answer.
 use mathlib.Core.Path.{_≡_, ap}
 use Rattle.refusal.proofs.OneAnswer.{refusal-one}
-use Rattle.packet_record.specs.Packet.{outcomeOf}
-use Rattle.packet_record.specs.Places.{outcomeOfPlaces}
+use Rattle.packet_record.specs.Packet.{outcomeOf, outcomeOfPlaces}
 use Rattle.packet_record.specs.declared.PacketAnswer.{PacketAnswer}
 use Rattle.packet_record.specs.declared.PacketAnswer.the-variants as packet
 use Rattle.packet_record.specs.declared.PlacesAnswer.{PlacesAnswer}

@@ -1,137 +1,100 @@
--- What a packet holds, what is handed out of it, and the lent slices that it needs (`ScanDataPacket` of scan_data.rs).
+-- What a packet holds, where it stands, and what is handed out of it (`ScanDataPacket` of scan_data.rs).
 use Prim.Native.Nat.{ℕ, _+_, _*_}
-use mathlib.Core.Bool.{Bool}
-use mathlib.Core.List.{List, [], _∷_}
+use mathlib.Core.List.{List, [], _∷_, _++_}
 use lib.ListN.{length}
-use Rattle.refusal.specs.Outcome.{Outcome, ok}
+use Rattle.refusal.specs.Outcome.{Outcome, ok, onOk}
 use Rattle.refusal.specs.Number.{outcomeOfRefusal}
-use Rattle.lists.specs.Written.{over}
-use Rattle.lists.specs.Left.{Left, fits, ifFits, firsts, seconds}
+use Rattle.lists.specs.Left.{firsts, seconds, listsIfFit}
 use Rattle.parser.specs.Parser.{Parser, done, bytes, _>>=_}
 use Rattle.packet_header.specs.declared.PacketHeader.{PacketHeader}
-use Rattle.peaks.specs.Peaks.{Peak}
-use Rattle.packet_peak_list.specs.PeakList.{listSize}
-use Rattle.packet_peak_list.specs.PeakList as list
-use Rattle.packet_labels.specs.Labels.{Streams, labels}
-use Rattle.packet_labels.specs.Labels as label
+use Rattle.peaks.specs.Peaks.{Peak, peaksAt}
+use Rattle.packet_peak_list.specs.PeakList.{itemSize, listPlace}
+use Rattle.packet_peak_list.specs.declared.PeakList.{PeakList}
+use Rattle.packet_labels.specs.Labels.{Streams, labels, labelPlaces, streamsAt, readLabels}
 use Rattle.packet_profile.specs.Profile.{Axis, Chunk, located}
 use Rattle.packet_record.specs.declared.PacketProfile.{PacketProfile}
 use Rattle.packet_record.specs.declared.PacketProfile.the-variants.{Absent, Present}
 use Rattle.packet_record.specs.declared.Places.{Places}
+use Rattle.packet_record.specs.declared.PlacesAnswer.{PlacesAnswer}
+use Rattle.packet_record.specs.declared.PlacesAnswer.the-variants as places
 use Rattle.packet_record.specs.declared.ScanDataPacket.{ScanDataPacket}
 use Rattle.packet_record.specs.declared.PacketAnswer.{PacketAnswer}
 use Rattle.packet_record.specs.declared.PacketAnswer.the-variants as answer
 
--- a profile that was read, or none
-pub data Stored : Type 0 where
-  absent : Stored
-  present : Axis × List Chunk → Stored
+-- a profile, or none
+pub data OptionalProfile : Type 0 where
+  absent : OptionalProfile
+  present : Axis × List Chunk → OptionalProfile
 
--- a packet as it was read
-pub record Packet : Type 0 where
-  pub header : PacketHeader
-  pub profile : Stored
+-- peaks and label streams
+pub record Contents : Type 0 where
   pub peaks : List Peak
   pub labels : Streams
 
+pub record Packet : Type 0 where
+  pub header : PacketHeader
+  pub profile : OptionalProfile
+  pub contents : Contents
+
 -- the label streams follow the peaks, and end the packet
-unfoldable pub afterPeaks : PacketHeader → Stored → List Peak → Parser Packet
+unfoldable pub afterPeaks : PacketHeader → OptionalProfile → List Peak → Parser Packet
 afterPeaks h profile peaks = do
   l ← labels h (length peaks)
-  done (record { header = h; profile = profile; peaks = peaks; labels = l })
+  done (record { header = h; profile = profile; contents = record { peaks = peaks; labels = l } })
 
--- a profile stands after its packet's header, of 40 bytes
-abbrev pub describeProfile : ℕ → ℕ → Stored → PacketProfile
-describeProfile layout at absent = Absent
-describeProfile layout at (present p) = Present (located layout (at + 40) p)
+-- where the profile of the packet at `at` stands: after the header, of 40 bytes
+abbrev pub profilePlace : ℕ → ℕ → OptionalProfile → PacketProfile
+profilePlace layout at absent = Absent
+profilePlace layout at (present p) = Present (located layout (at + 40) p)
 
--- where the parts of a packet stand: the list at `start`, after the profile, and the labels after the list, up to `next`
-unfoldable pub placed : PacketProfile → ℕ → Packet → ℕ → Places
-placed profile start p next =
-    let listEnd = start + listSize (p .header) (p .peaks) in
-    record {
-      header = p .header;
-      profile = profile;
-      list = list.located (p .header) start (p .peaks) listEnd;
-      labels = label.located (p .header) listEnd (p .labels) next;
-    }
+-- where the parts of a packet stand whose peak list starts at `at`: the labels follow the list
+unfoldable pub placesFrom : PacketProfile → ℕ → Packet → Places
+placesFrom profile at p =
+    let list = listPlace (p .header) at (p .contents .peaks) in
+    record { header = p .header; profile = profile; list = list; labels = labelPlaces (p .header) (list .next) (p .contents .labels) }
+
+-- what stands at such places
+abbrev pub contentsAt : List ℕ → Places → Contents
+contentsAt s v =
+    record { peaks = peaksAt (v .list .wide) (itemSize (v .list .wide)) s (v .list .at) (v .list .count); labels = streamsAt s (v .labels) }
+
+-- what `with_labels` answers, with the streams that stand there
+unfoldable pub withLabels : PacketHeader → PacketProfile → PeakList → List ℕ → Outcome (Places × Streams)
+withLabels h profile list run =
+    onOk (λ l. (record { header = h; profile = profile; list = list; labels = l .0 }, l .1)) (readLabels h (list .count) (list .next) run)
+
+abbrev pub outcomeOfPlaces : PlacesAnswer → Outcome Places
+outcomeOfPlaces (places.Places p) = ok p
+outcomeOfPlaces (places.Refused r) = outcomeOfRefusal r
 
 -- the answer's record
-unfoldable pub describe : Places → ScanDataPacket
-describe p =
+unfoldable pub recordOf : Places → ScanDataPacket
+recordOf v =
     record {
-      header = p .header;
-      profile = p .profile;
-      peaks = p .list .count;
-      descriptors = p .labels .descriptors;
-      resolutions = p .labels .resolutions;
-      «noise_nodes» = p .labels .«noise_nodes»;
-      «nodes_at» = p .labels .«nodes_at»;
-      next = p .labels .next;
+      header = v .header;
+      profile = v .profile;
+      peaks = v .list .count;
+      descriptors = v .labels .descriptors;
+      resolutions = v .labels .resolutions;
+      «noise_nodes» = v .labels .«noise_nodes»;
+      «nodes_at» = v .labels .«nodes_at»;
+      next = v .labels .next;
     }
 
--- what is handed out of any packet: the record, what is written into the lent slices, and the noise nodes, which stay where they are
-pub record Decoded : Type 0 where
-  pub packet : ScanDataPacket
-  pub mz : List ℕ
-  pub abundance : List ℕ
-  pub descriptors : List ℕ
-  pub resolutions : List ℕ
-  pub nodes : List ℕ
+abbrev pub listsOf : Contents → List (List ℕ)
+listsOf c = firsts (c .peaks) ∷ seconds (c .peaks) ∷ c .labels .descriptors ∷ c .labels .resolutions ∷ []
 
-abbrev pub decoded : Places → List Peak → Streams → Decoded
-decoded places peaks l =
-    record {
-      packet = describe places;
-      mz = firsts peaks;
-      abundance = seconds peaks;
-      descriptors = l .descriptors;
-      resolutions = l .resolutions;
-      nodes = l .nodes;
-    }
-
--- the bytes of the nodes that the record answers: twelve each
-abbrev pub nodesAt : List ℕ → ScanDataPacket → List ℕ
-nodesAt s p = bytes s (p .«nodes_at») (p .«noise_nodes» * 12)
-
--- the four lent slices, and their lengths
-pub record Slices : Type 0 where
-  pub mz : List ℕ
-  pub abundance : List ℕ
-  pub descriptors : List ℕ
-  pub resolutions : List ℕ
-
-abbrev pub slices : List ℕ → List ℕ → List ℕ → List ℕ → Slices
-slices m a d q = record { mz = m; abundance = a; descriptors = d; resolutions = q }
-
-pub record Lent : Type 0 where
-  pub mz : ℕ
-  pub abundance : ℕ
-  pub descriptors : ℕ
-  pub resolutions : ℕ
-
-abbrev pub lentOf : Slices → Lent
-lentOf xs =
-    record { mz = length (xs .mz); abundance = length (xs .abundance); descriptors = length (xs .descriptors); resolutions = length (xs .resolutions) }
-
--- the slices hold what is written into them
-abbrev pub room : Lent → Decoded → Bool
-room lent d =
-    fits (length (d .mz) ∷ length (d .abundance) ∷ length (d .descriptors) ∷ length (d .resolutions) ∷ []) (lent .mz ∷ lent .abundance ∷ lent .descriptors ∷ lent .resolutions ∷ [])
-
--- the packet, or refusal 8 where a lent slice is shorter than its count
-unfoldable pub handOut : Lent → Decoded → Outcome Decoded
-handOut lent d = ifFits (room lent d) d
+-- what is handed out: the record, with the bytes of the nodes, which stay where they are; and the lists, and more, if they fit
+unfoldable pub packetIfFits : List ℕ → Places → Contents → List (List ℕ) → Outcome ((ScanDataPacket × List ℕ) × List (List ℕ))
+packetIfFits capacities v c more = listsIfFit capacities (recordOf v, c .labels .nodes) (listsOf c ++ more)
 
 abbrev pub outcomeOf : PacketAnswer → Outcome ScanDataPacket
 outcomeOf (answer.Packet p) = ok p
 outcomeOf (answer.Refused r) = outcomeOfRefusal r
 
--- a packet is written over the slices' fronts
-abbrev pub written : Decoded → Slices → Slices
-written d xs =
-    slices (over (d .mz) (xs .mz)) (over (d .abundance) (xs .abundance)) (over (d .descriptors) (xs .descriptors)) (over (d .resolutions) (xs .resolutions))
+-- the bytes of the nodes, twelve each, at the place that the record says; and an answer with them
+abbrev pub nodesAt : List ℕ → ScanDataPacket → List ℕ
+nodesAt s p = bytes s (p .«nodes_at») (p .«noise_nodes» * 12)
 
--- a call was lent the slices xs: it answers r, and leaves ys. The call goes by the slices' lengths
-abbrev pub Answers : (Lent → Outcome Decoded) → Slices → PacketAnswer → Slices → Type 0
-Answers call xs r ys = Left (λ (d : Decoded). d .packet) written (call (lentOf xs)) xs (outcomeOf r) ys
+abbrev pub withNodes : List ℕ → PacketAnswer → Outcome (ScanDataPacket × List ℕ)
+withNodes s r = onOk (λ p. (p, nodesAt s p)) (outcomeOf r)

@@ -2,10 +2,11 @@
 // the readers share once the peak list is found. The lists go into lent slices; fields that are only read keep their bits.
 ghost use mathlib.Core.Path.{_≡_};
 ghost use mathlib.Core.Bool.{true};
+ghost use mathlib.Core.List.{[], _∷_};
 ghost use Rattle.refusal.specs.Outcome.{onOk};
-ghost use Rattle.packet_labels.specs.Labels.{readStreams};
-ghost use Rattle.packet_record.specs.Packet.{describe as described, slices, lentOf, room, handOut, written, Answers};
-ghost use Rattle.packet_record.specs.Places.{withLabels, outcomeOfPlaces, streamsOf, decodedAt};
+ghost use Rattle.lists.specs.Left.{fits, lengths, overAll, LeftLists};
+ghost use Rattle.packet_labels.specs.Labels.{streamsAt};
+ghost use Rattle.packet_record.specs.Packet.{contentsAt, withLabels, outcomeOfPlaces, recordOf, listsOf, packetIfFits, withNodes};
 use lists::holds;
 use packet_header::PacketHeader;
 use packet_labels::Labels;
@@ -63,8 +64,7 @@ pub fn with_labels(
     profile: PacketProfile,
     list: PeakList,
 ) -> PlacesAnswer
-    ensures { λ r. ⌜ outcomeOfPlaces r ≡ withLabels header profile list (now (run .entry)) ⌝ }
-    ensures { λ r. ⌜ onOk (λ v. streamsOf v (now (run .entry))) (outcomeOfPlaces r) ≡ readStreams header (list .count) (list .next) (now (run .entry)) ⌝ }
+    ensures { λ r. ⌜ onOk (λ v. (v, streamsAt (now (run .entry)) (v .labels))) (outcomeOfPlaces r) ≡ withLabels header profile list (now (run .entry)) ⌝ }
 {
     match read_labels(run, list.next, header, list.count) {
         LabelsAnswer::Refused(r) => PlacesAnswer::Refused(r),
@@ -86,9 +86,9 @@ fn write_lists(
     descriptors: &mut [u32],
     resolutions: &mut [u32],
 )
-    requires { ⌜ room (lentOf (slices (now mz) (now abundance) (now descriptors) (now resolutions))) (decodedAt places (now run)) ≡ true ⌝ }
-    ensures { λ _. ⌜ slices (now (mz .exit)) (now (abundance .exit)) (now (descriptors .exit)) (now (resolutions .exit))
-        ≡ written (decodedAt places (now (run .entry))) (slices (now (mz .entry)) (now (abundance .entry)) (now (descriptors .entry)) (now (resolutions .entry))) ⌝ }
+    requires { ⌜ fits (lengths (listsOf (contentsAt (now run) places))) (lengths (now mz ∷ now abundance ∷ now descriptors ∷ now resolutions ∷ [])) ≡ true ⌝ }
+    ensures { λ _. ⌜ now (mz .exit) ∷ now (abundance .exit) ∷ now (descriptors .exit) ∷ now (resolutions .exit) ∷ []
+        ≡ overAll (listsOf (contentsAt (now (run .entry)) places)) (now (mz .entry) ∷ now (abundance .entry) ∷ now (descriptors .entry) ∷ now (resolutions .entry) ∷ []) ⌝ }
 {
     let list = places.list;
     let labels = places.labels;
@@ -111,8 +111,8 @@ fn write_lists(
 }
 
 // The answer's record.
-fn describe(places: Places) -> ScanDataPacket
-    ensures { λ r. ⌜ r ≡ described places ⌝ }
+fn record_of(places: Places) -> ScanDataPacket
+    ensures { λ r. ⌜ r ≡ recordOf places ⌝ }
 {
     let list = places.list;
     let labels = places.labels;
@@ -139,9 +139,9 @@ pub fn hand_out(
     descriptors: &mut [u32],
     resolutions: &mut [u32],
 ) -> PacketAnswer
-    ensures { λ r. ⌜ Answers (λ lent. handOut lent (decodedAt places (now (run .entry))))
-        (slices (now (mz .entry)) (now (abundance .entry)) (now (descriptors .entry)) (now (resolutions .entry)))
-        r (slices (now (mz .exit)) (now (abundance .exit)) (now (descriptors .exit)) (now (resolutions .exit))) ⌝ }
+    ensures { λ r. ⌜ LeftLists (λ c. packetIfFits c places (contentsAt (now (run .entry)) places) [])
+        (now (mz .entry) ∷ now (abundance .entry) ∷ now (descriptors .entry) ∷ now (resolutions .entry) ∷ [])
+        (withNodes (now (run .entry)) r) (now (mz .exit) ∷ now (abundance .exit) ∷ now (descriptors .exit) ∷ now (resolutions .exit) ∷ []) ⌝ }
 {
     let n = places.list.count;
     let labels = places.labels;
@@ -156,7 +156,7 @@ pub fn hand_out(
         holds(n, abundance.len() as u64, labels_fit),
     ) {
         write_lists(run, places, mz, abundance, descriptors, resolutions);
-        return PacketAnswer::Packet(describe(places));
+        return PacketAnswer::Packet(record_of(places));
     }
     PacketAnswer::Refused(Refusal::NoRoom)
 }

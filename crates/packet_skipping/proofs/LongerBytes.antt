@@ -1,25 +1,25 @@
 -- Demand 3 for a packet whose profile is passed over.
 use mathlib.Core.Path.{_≡_}
 use Prim.Native.Nat.{ℕ, _+_, _*_, _^_, _<_}
-use mathlib.Core.List.{List}
+use mathlib.Core.List.{List, []}
 use lib.Dec.{lit≤}
-use Rattle.refusal.specs.Outcome.{Outcome, onOk}
+use Rattle.refusal.specs.Outcome.{Outcome}
+use Rattle.lists.specs.Left.{lengths, LeftLists}
 use Rattle.parser.specs.Call.{single}
 use Rattle.parser.specs.LongerBytes.{OnLongerBytes, PrefixProperty, Names, Completes}
 use Rattle.parser.proofs.Completion.{Bounded, bounded-more}
 use Rattle.parser.proofs.DemandBound.{DemandBound, Any, demand-bind}
-use Rattle.parser.proofs.Calls.{NotTruncated, not-truncated-room, prefix-property, only-part, single-completes}
-use Rattle.parser.proofs.OnLongerBytes.{one-part, left-longer}
+use Rattle.parser.proofs.Calls.{NotTruncated, prefix-property, only-part, single-completes}
 use Rattle.packet_header.specs.declared.PacketHeader.{PacketHeader}
 use Rattle.packet_header.proofs.LongerBytes.{Sizable}
 use Rattle.peaks.specs.Peaks.{Peak}
-use Rattle.packet_peak_list.specs.PeakList.{skipping}
+use Rattle.packet_peak_list.specs.PeakList.{skipping, afterSkipped}
 use Rattle.packet_peak_list.proofs.LongerBytes.{skipping-demand}
-use Rattle.packet_labels.proofs.LongerBytes.{longer-and}
-use Rattle.packet_record.specs.Packet.{absent, Packet, Decoded, decoded, nodesAt, Slices, Lent, lentOf, room, handOut, outcomeOf, written, Answers}
-use Rattle.packet_record.proofs.OneAnswer.{packet-answer-one}
-use Rattle.packet_record.proofs.LongerBytes.{after-demand}
-use Rattle.packet_skipping.specs.Skipping.{packetSkipping, skippedPlaces, readSkipProfile}
+use Rattle.packet_record.specs.Packet.{absent, Packet, placesFrom, packetIfFits, outcomeOf, withNodes}
+use Rattle.packet_record.specs.declared.PacketProfile.the-variants.{Absent}
+use Rattle.packet_record.specs.declared.ScanDataPacket.{ScanDataPacket}
+use Rattle.packet_record.proofs.LongerBytes.{after-demand, fits-not-truncated, lists-longer}
+use Rattle.packet_skipping.specs.Skipping.{packetSkipping, readSkipProfile}
 use Rattle.packet_skipping.proofs.Answers.{beyond}
 
 -- at most so many bytes after the end
@@ -36,32 +36,28 @@ packet-bounded : Bounded (2 ^ 62) (2 ^ 61) packetSkipping
 packet-bounded = bounded-more (2 ^ 62) most (2 ^ 61) packetSkipping (lit≤ tt) (packet-demand (2 ^ 62) .bounded)
 
 module _ (at : ℕ) where
-  module _ (lent : Lent) where
-    given : Packet → ℕ → Outcome Decoded
-    given p next = handOut lent (decoded (skippedPlaces at p next) (p .peaks) (p .labels))
+  module _ (capacities : List ℕ) where
+    given : Packet → ℕ → Outcome ((ScanDataPacket × List ℕ) × List (List ℕ))
+    given p _ = packetIfFits capacities (placesFrom Absent (afterSkipped (p .header) at) p) (p .contents) []
 
     given-not-truncated : (p : Packet) (next : ℕ) → NotTruncated (given p next)
-    unfolding given handOut
-    given-not-truncated p next = let d = decoded (skippedPlaces at p next) (p .peaks) (p .labels) in not-truncated-room (room lent d) d
+    unfolding given
+    given-not-truncated p _ = fits-not-truncated capacities (placesFrom Absent (afterSkipped (p .header) at) p) (p .contents) []
 
-    pub skip-profile-prefix : PrefixProperty (readSkipProfile lent at)
+    pub skip-profile-prefix : PrefixProperty (readSkipProfile capacities at)
     unfolding readSkipProfile given
     skip-profile-prefix = prefix-property (single 4 at packetSkipping given)
 
-    pub skip-profile-names : Names (λ q. q ≡ 4) (readSkipProfile lent at)
+    pub skip-profile-names : Names (λ q. q ≡ 4) (readSkipProfile capacities at)
     unfolding readSkipProfile given
     skip-profile-names = only-part 4 at packetSkipping given given-not-truncated
 
-    pub skip-profile-completes : Completes 4 at (readSkipProfile lent at)
+    pub skip-profile-completes : Completes 4 at (readSkipProfile capacities at)
     unfolding readSkipProfile given
     skip-profile-completes = single-completes 4 at packetSkipping given packet-bounded given-not-truncated
 
-  pub skip-profile-longer : (xs : Slices)
-      → OnLongerBytes outcomeOf (λ s r ys. Answers (λ lent. readSkipProfile lent at s) xs r ys × (onOk (nodesAt s) (outcomeOf r) ≡ onOk (λ d. d .nodes) (readSkipProfile (lentOf xs) at s))) (λ q. q ≡ 4)
-      (λ _ _. at < 2 ^ 62)
+  pub skip-profile-longer : (xs : List (List ℕ))
+      → OnLongerBytes outcomeOf (λ s r ys. LeftLists (λ c. readSkipProfile c at s) xs (withNodes s r) ys) (λ q. q ≡ 4) (λ _ _. at < 2 ^ 62)
   skip-profile-longer xs =
-      let call = readSkipProfile (lentOf xs) at in
-      let names = skip-profile-names (lentOf xs) in
-      longer-and (λ s r. onOk (nodesAt s) (outcomeOf r) ≡ onOk (λ d. d .nodes) (readSkipProfile (lentOf xs) at s))
-      (left-longer outcomeOf packet-answer-one call (skip-profile-prefix (lentOf xs)) (λ q. q ≡ 4) (λ _ _. at < 2 ^ 62) names
-      (one-part 4 at call names (skip-profile-completes (lentOf xs))) (λ (d : Decoded). d .packet) written xs)
+      let c = lengths xs in
+      lists-longer (readSkipProfile c at) (skip-profile-prefix c) at (skip-profile-names c) (skip-profile-completes c) xs

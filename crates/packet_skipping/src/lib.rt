@@ -1,7 +1,7 @@
 // A packet's peaks and labels, with its profile passed over (`ScanDataPacket::read_skip_profile` of scan_data.rs).
-ghost use mathlib.Core.Path.{_≡_};
-ghost use Rattle.refusal.specs.Outcome.{onOk};
-ghost use Rattle.packet_record.specs.Packet.{nodesAt, slices, lentOf, outcomeOf, Answers};
+ghost use mathlib.Core.List.{[], _∷_};
+ghost use Rattle.lists.specs.Left.{LeftLists};
+ghost use Rattle.packet_record.specs.Packet.{withNodes};
 ghost use Rattle.packet_skipping.specs.Skipping.{readSkipProfile};
 use packet_peak_list::SkippedAnswer;
 use packet_peak_list::skip_to_peaks;
@@ -19,11 +19,9 @@ pub fn read_skip_profile(
     descriptors: &mut [u32],
     resolutions: &mut [u32],
 ) -> PacketAnswer
-    ensures { λ r. ⌜ Answers (λ lent. readSkipProfile lent at (now (run .entry)))
-        (slices (now (mz .entry)) (now (abundance .entry)) (now (descriptors .entry)) (now (resolutions .entry)))
-        r (slices (now (mz .exit)) (now (abundance .exit)) (now (descriptors .exit)) (now (resolutions .exit))) ⌝ }
-    ensures { λ r. ⌜ onOk (nodesAt (now (run .entry))) (outcomeOf r)
-        ≡ onOk (λ d. d .nodes) (readSkipProfile (lentOf (slices (now (mz .entry)) (now (abundance .entry)) (now (descriptors .entry)) (now (resolutions .entry)))) at (now (run .entry))) ⌝ }
+    ensures { λ r. ⌜ LeftLists (λ c. readSkipProfile c at (now (run .entry)))
+        (now (mz .entry) ∷ now (abundance .entry) ∷ now (descriptors .entry) ∷ now (resolutions .entry) ∷ [])
+        (withNodes (now (run .entry)) r) (now (mz .exit) ∷ now (abundance .exit) ∷ now (descriptors .exit) ∷ now (resolutions .exit) ∷ []) ⌝ }
 {
     match skip_to_peaks(run, at) {
         SkippedAnswer::Refused(r) => PacketAnswer::Refused(r),

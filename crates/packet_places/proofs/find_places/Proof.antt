@@ -4,8 +4,9 @@ use denote.Ref.{now}
 use Rattle.packet_header.specs.Header.{outcomeOf}
 use Rattle.packet_header.proofs.Size.{header-read}
 use Rattle.refusal.specs.Outcome.{andThen}
+use Rattle.packet_record.specs.Packet.{outcomeOfPlaces}
 use Rattle.packet_places.specs.Internal.{afterHeader, inTurn}
-use Rattle.packet_places.proofs.Answers.{by-stages}
+use Rattle.packet_places.proofs.Answers.{by-stages, no-packet}
 use borrow.Author.Needs.{needs}
 use Rattle.packet_places.proofs.find_places.Statement.{statement}
 use Rattle.packet_places.proofs.find_places.Tie as tie
@@ -19,13 +20,13 @@ returns : tie.Need-returns
 unfolding inTurn
 returns c =
     let a = c .before .before .before .before .before .args in
-    by-stages (now (a .run)) (a .at) _ (ap (λ o. andThen o (λ h. afterHeader h (a .at) (now (a .run)))) (sym (ap outcomeOf (c .before .r .given .1)) ∙ c .before .before .before .read .ensures))
+    no-packet (now (a .run)) (a .at) (ap (λ o. andThen o (λ h. afterHeader h (a .at) (now (a .run)))) (sym (ap outcomeOf (c .before .r .given .1)) ∙ c .before .before .before .read .ensures))
 
 returns-2 : tie.Need-returns-2
 unfolding inTurn
 returns-2 c =
     let a = c .before .before .before .before .before .before .args in
-    by-stages (now (a .run)) (a .at) _
+    by-stages (now (a .run)) (a .at) (outcomeOfPlaces (c .after-header .result))
     (c .after-header .ensures ∙ ap (λ o. andThen o (λ h. afterHeader h (a .at) (now (a .run)))) (sym (ap outcomeOf (c .before .before .h .given .1)) ∙ c .before .before .before .before .read .ensures))
 
 pub find-places-spec : {M : Type 1} → statement M
