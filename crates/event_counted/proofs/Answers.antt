@@ -9,12 +9,11 @@ use Rattle.refusal.specs.Outcome.{Outcome, ok, refused, ranOut, onOk, andThen}
 use Rattle.parser.specs.Parser.{Parsed, short, parsed, parse, bytes, littleEndian, left}
 use Rattle.parser.specs.Call.{onward, outcome}
 use Rattle.event_preamble.specs.Settings.{isPrimary}
-use Rattle.event_record.specs.Event.{Event, handOut}
+use Rattle.event_record.specs.Event.{Event, eventIfFits}
 use Rattle.event_record.specs.Places.{eventIn, outcomeOfPlaces}
-use Rattle.event_record.specs.declared.Lent.{Lent}
 use Rattle.event_record.specs.declared.Lists.{Lists}
 use Rattle.event_record.specs.declared.PlacesAnswer.the-variants.{At}
-use Rattle.event_record.proofs.HandOut.{thenHandOut}
+use Rattle.event_writer.proofs.Reading.{thenIfFits}
 use Rattle.event_counted.specs.Layout.{judgeRecords, kept, countedEvent, bodyEvent, counted, findCounted, readCounted}
 
 module _ (size : ℕ) (s : List ℕ) (at : ℕ) where
@@ -42,16 +41,16 @@ module _ (size : ℕ) (s : List ℕ) (at : ℕ) where
         found j h = rw (← whole, ← hp, ← hb, ← h)
 
 -- the reader is what was found, and then the room
-pub counted-then : (size : ℕ) (lent : Lent) (at : ℕ) (s : List ℕ) → thenHandOut (findCounted size at s) lent ≡ readCounted size lent at s
+pub counted-then : (size : ℕ) (capacities : List ℕ) (at : ℕ) (s : List ℕ) → thenIfFits (findCounted size at s) capacities ≡ readCounted size capacities at s
 unfolding findCounted readCounted outcome
-counted-then size lent at s = go (parse (counted size) s at)
+counted-then size capacities at s = go (parse (counted size) s at)
   where
-    same : (o : Outcome Event) (next : ℕ) → thenHandOut (onOk (λ e. (e, next)) o) lent ≡ andThen o (λ e. handOut lent e next)
+    same : (o : Outcome Event) (next : ℕ) → thenIfFits (onOk (λ e. (e, next)) o) capacities ≡ andThen o (λ e. eventIfFits capacities e next)
     same (ok e) next = refl
     same (refused n carries) next = refl
 
-    go : (o : Parsed (List ℕ × List ℕ)) → thenHandOut (onward 3 o (λ parts next. onOk (λ e. (e, next)) (bodyEvent (at + 136) (parts .0) (parts .1)))) lent
-        ≡ onward 3 o (λ parts next. andThen (bodyEvent (at + 136) (parts .0) (parts .1)) (λ e. handOut lent e next))
+    go : (o : Parsed (List ℕ × List ℕ)) → thenIfFits (onward 3 o (λ parts next. onOk (λ e. (e, next)) (bodyEvent (at + 136) (parts .0) (parts .1)))) capacities
+        ≡ onward 3 o (λ parts next. andThen (bodyEvent (at + 136) (parts .0) (parts .1)) (λ e. eventIfFits capacities e next))
     go short = refl
     go (parsed parts next) = same (bodyEvent (at + 136) (parts .0) (parts .1)) next
 

@@ -11,8 +11,8 @@ use Rattle.event_preamble.specs.Settings.{isPrimary}
 use Rattle.event_window.specs.Window.{windowAt, endBits}
 use Rattle.event_coefficients.specs.Coefficients.{coefficients}
 use Rattle.event_reactions.specs.Reactions.{acceptable}
-use Rattle.event_record.specs.Event.{Event, Decoded, handOut}
-use Rattle.event_record.specs.declared.Lent.{Lent}
+use Rattle.event_record.specs.Event.{Event, eventIfFits}
+use Rattle.event_record.specs.declared.ScanEvent.{ScanEvent}
 
 -- where record i of 56 bytes stands in the body: its precursor at 0, its energy at 16
 abbrev pub recordAt : ℕ → ℕ
@@ -65,6 +65,6 @@ unfoldable pub findCounted : ℕ → ℕ → List ℕ → Outcome (Event × ℕ)
 findCounted size at run = outcome (single 3 at (counted size) (λ parts next. onOk (λ e. (e, next)) (bodyEvent (at + 136) (parts .0) (parts .1)))) run
 
 -- what `read_counted_v66` answers
-unfoldable pub readCounted : ℕ → Lent → ℕ → List ℕ → Outcome Decoded
-readCounted size lent at run =
-    outcome (single 3 at (counted size) (λ parts next. andThen (bodyEvent (at + 136) (parts .0) (parts .1)) (λ e. handOut lent e next))) run
+unfoldable pub readCounted : ℕ → List ℕ → ℕ → List ℕ → Outcome (ScanEvent × List (List ℕ))
+readCounted size capacities at run =
+    outcome (single 3 at (counted size) (λ parts next. andThen (bodyEvent (at + 136) (parts .0) (parts .1)) (λ e. eventIfFits capacities e next))) run

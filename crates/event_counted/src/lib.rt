@@ -1,7 +1,9 @@
 // Scan events of version 66 whose body starts with its reaction count (`read_counted_v66` of scan_event.rs).
 ghost use mathlib.Core.Path.{_≡_};
 ghost use Prim.Native.Nat.{_+_, _^_, _<_};
-ghost use Rattle.event_record.specs.Event.{slices, Answers};
+ghost use mathlib.Core.List.{[], _∷_};
+ghost use Rattle.lists.specs.Left.{LeftLists};
+ghost use Rattle.event_record.specs.Event.{outcomeOf};
 ghost use Rattle.event_record.specs.Places.{eventIn, outcomeOfPlaces};
 ghost use Rattle.event_counted.specs.Layout.{judgeRecord, judgeRecords, kept, countedEvent, bodyEvent, findCounted, readCounted};
 ghost use Rattle.event_counted.specs.Internal.{outcomeOfRecords, sourceOf, outcomeOfBody};
@@ -13,9 +15,9 @@ use event_record::EventAnswer;
 use event_record::Lists;
 use event_record::Places;
 use event_record::PlacesAnswer;
-use event_record::write_event;
 use event_window::end_bits;
 use event_window::plausible_window;
+use event_writer::write_event;
 use reader::remaining;
 use reader::u32_at;
 use reader::u64_at;
@@ -166,9 +168,9 @@ pub fn read_counted_v66(
     energies: &mut [u64],
     coefficients: &mut [u64],
 ) -> EventAnswer
-    ensures { λ r. ⌜ Answers (λ lent. readCounted «body_size» lent at (now (run .entry)))
-        (slices (now (preamble .entry)) (now (precursors .entry)) (now (energies .entry)) (now (coefficients .entry)))
-        r (slices (now (preamble .exit)) (now (precursors .exit)) (now (energies .exit)) (now (coefficients .exit))) ⌝ }
+    ensures { λ r. ⌜ LeftLists (λ c. readCounted «body_size» c at (now (run .entry)))
+        (now (preamble .entry) ∷ now (precursors .entry) ∷ now (energies .entry) ∷ now (coefficients .entry) ∷ [])
+        (outcomeOf r) (now (preamble .exit) ∷ now (precursors .exit) ∷ now (energies .exit) ∷ now (coefficients .exit) ∷ []) ⌝ }
 {
     match find_counted(run, at, body_size) {
         PlacesAnswer::Refused(r) => EventAnswer::Refused(r),

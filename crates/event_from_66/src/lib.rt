@@ -4,7 +4,9 @@ ghost use mathlib.Core.Bool.{_&&_, not, cond};
 ghost use Prim.Native.Nat.{_<_};
 ghost use lib.Dec.{eqb};
 ghost use Rattle.parser.specs.Call.{partAt};
-ghost use Rattle.event_record.specs.Event.{slices, Answers};
+ghost use mathlib.Core.List.{[], _∷_};
+ghost use Rattle.lists.specs.Left.{LeftLists};
+ghost use Rattle.event_record.specs.Event.{outcomeOf};
 ghost use Rattle.event_record.specs.Places.{eventIn, outcomeOfPlaces};
 ghost use Rattle.event_from_66.specs.Layout.{eventOf, from66, readFrom66};
 ghost use Rattle.event_from_66.specs.Internal.{sourceOf};
@@ -16,9 +18,9 @@ use event_record::EventAnswer;
 use event_record::Lists;
 use event_record::Places;
 use event_record::PlacesAnswer;
-use event_record::write_event;
 use event_window::end_bits;
 use event_window::find_window;
+use event_writer::write_event;
 use reader::remaining;
 use refusal::Part;
 use refusal::Refusal;
@@ -110,9 +112,9 @@ pub fn read_from_66(
     energies: &mut [u64],
     coefficients: &mut [u64],
 ) -> EventAnswer
-    ensures { λ r. ⌜ Answers (λ lent. readFrom66 «body_primary» «body_dependent» lent at (now (run .entry)))
-        (slices (now (preamble .entry)) (now (precursors .entry)) (now (energies .entry)) (now (coefficients .entry)))
-        r (slices (now (preamble .exit)) (now (precursors .exit)) (now (energies .exit)) (now (coefficients .exit))) ⌝ }
+    ensures { λ r. ⌜ LeftLists (λ c. readFrom66 «body_primary» «body_dependent» c at (now (run .entry)))
+        (now (preamble .entry) ∷ now (precursors .entry) ∷ now (energies .entry) ∷ now (coefficients .entry) ∷ [])
+        (outcomeOf r) (now (preamble .exit) ∷ now (precursors .exit) ∷ now (energies .exit) ∷ now (coefficients .exit) ∷ []) ⌝ }
 {
     match find_from_66(run, at, body_primary, body_dependent) {
         PlacesAnswer::Refused(r) => EventAnswer::Refused(r),

@@ -3,13 +3,20 @@ use Prim.Native.Nat.{ℕ, _^_, _<_}
 use mathlib.Core.Path.{_≡_}
 use mathlib.Core.List.{List}
 use Rattle.refusal.specs.Outcome.{Outcome}
+use Rattle.lists.specs.Left.{fits, lengths, overAll, listsIfFit, LeftLists}
 use Rattle.parser.specs.LongerBytes.{OnLongerBytes, PrefixProperty, Names, Completes}
+use Rattle.parser.proofs.Calls.{NotTruncated, not-truncated-room}
 use Rattle.parser.proofs.OnLongerBytes.{one-part, left-longer}
-use Rattle.event_record.specs.Event.{Decoded, Slices, lentOf, outcomeOf, written, Answers}
-use Rattle.event_record.specs.declared.Lent.{Lent}
+use Rattle.event_record.specs.Event.{Event, eventLists, eventIfFits, outcomeOf}
+use Rattle.event_record.specs.declared.ScanEvent.{ScanEvent}
 use Rattle.event_record.proofs.OneAnswer.{event-answer-one}
 
-pub reader-longer : (call : Lent → List ℕ → Outcome Decoded) (at : ℕ) (xs : Slices) → PrefixProperty (call (lentOf xs)) → Names (λ q. q ≡ 3) (call (lentOf xs)) → Completes 3 at (call (lentOf xs))
-    → OnLongerBytes outcomeOf (λ s r (ys : Slices). Answers (λ lent. call lent s) xs r ys) (λ q. q ≡ 3) (λ _ _. at < 2 ^ 62)
+pub event-not-truncated : (capacities : List ℕ) (e : Event) (next : ℕ) → NotTruncated (eventIfFits capacities e next)
+unfolding eventIfFits listsIfFit
+event-not-truncated capacities e next = not-truncated-room (fits (lengths (eventLists e)) capacities) _
+
+pub reader-longer : (call : List ℕ → List ℕ → Outcome (ScanEvent × List (List ℕ))) (at : ℕ) (xs : List (List ℕ)) → PrefixProperty (call (lengths xs)) → Names (λ q. q ≡ 3) (call (lengths xs)) → Completes 3 at (call (lengths xs))
+    → OnLongerBytes outcomeOf (λ s r (ys : List (List ℕ)). LeftLists (λ c. call c s) xs (outcomeOf r) ys) (λ q. q ≡ 3) (λ _ _. at < 2 ^ 62)
 reader-longer call at xs prefix names completes =
-    left-longer outcomeOf event-answer-one (call (lentOf xs)) prefix (λ q. q ≡ 3) (λ _ _. at < 2 ^ 62) names (one-part 3 at (call (lentOf xs)) names completes) (λ (d : Decoded). d .event) written xs
+    left-longer outcomeOf event-answer-one (call (lengths xs)) prefix (λ q. q ≡ 3) (λ _ _. at < 2 ^ 62) names (one-part 3 at (call (lengths xs)) names completes)
+    (λ (v : ScanEvent × List (List ℕ)). v .0) (λ (v : ScanEvent × List (List ℕ)). overAll (v .1)) xs

@@ -5,17 +5,16 @@ use native.Mathlib.Omega.{arith}
 use mathlib.Core.List.{List}
 use borrow.Author.Tests.{le-leb, lt-leb, ne-eqb}
 use Rattle.event_preamble.specs.Size.{sizeForVersion}
-use Rattle.event_record.specs.declared.Lent.{Lent}
 use Rattle.event_before_66.specs.Layout.{readBefore66}
 use Rattle.event_from_66.specs.Layout.{readFrom66}
 use Rattle.events.specs.Event.{readEvent}
 
-module _ (version primary dependent at : ℕ) (s : List ℕ) (lent : Lent) where
-  pub from-66 : 66 ≤ version → readFrom66 primary dependent lent at s ≡ readEvent version primary dependent lent at s
+module _ (version primary dependent at : ℕ) (s : List ℕ) (capacities : List ℕ) where
+  pub from-66 : 66 ≤ version → readFrom66 primary dependent capacities at s ≡ readEvent version primary dependent capacities at s
   unfolding readEvent
   from-66 h = rw (le-leb 66 version h)
 
-  pub before-66 : version < 66 → readBefore66 version lent at s ≡ readEvent version primary dependent lent at s
+  pub before-66 : version < 66 → readBefore66 version capacities at s ≡ readEvent version primary dependent capacities at s
   unfolding readEvent
   before-66 h = rw (lt-leb 66 version h)
 

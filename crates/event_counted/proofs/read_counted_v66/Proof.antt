@@ -1,6 +1,6 @@
 -- `event_counted::read_counted_v66` meets its contract: what was found is written.
 use Rattle.lists.proofs.Left.{left-same}
-use Rattle.event_record.proofs.HandOut.{read-refused, read-found}
+use Rattle.event_writer.proofs.Reading.{read-refused, read-found}
 use Rattle.event_counted.proofs.Answers.{counted-then}
 use borrow.Author.Needs.{needs}
 use Rattle.event_counted.proofs.read_counted_v66.Statement.{statement}

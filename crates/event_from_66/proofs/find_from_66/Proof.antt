@@ -2,7 +2,7 @@
 use Prim.Native.Nat.{_+_}
 use native.Mathlib.Omega.{arith}
 use denote.Ref.{now}
-use Rattle.event_record.proofs.HandOut.{part-is}
+use Rattle.event_writer.proofs.Parts.{part-is}
 use Rattle.event_from_66.proofs.Answers.{short-preamble, short-body, found}
 use borrow.Author.Needs.{needs}
 use Rattle.event_from_66.proofs.find_from_66.Statement.{statement}

@@ -1,7 +1,7 @@
 -- `event_from_66::read_from_66` meets its contract: what was found is written.
 use Rattle.lists.proofs.Left.{left-same}
 use Rattle.parser.proofs.Answered.{part-then}
-use Rattle.event_record.proofs.HandOut.{read-refused, read-found}
+use Rattle.event_writer.proofs.Reading.{read-refused, read-found}
 use Rattle.event_from_66.specs.Layout.{readFrom66}
 use borrow.Author.Needs.{needs}
 use Rattle.event_from_66.proofs.read_from_66.Statement.{statement}

@@ -1,7 +1,7 @@
 -- `event_walk::end_from_66` meets its contract: the preamble decides the body's size.
 use native.Mathlib.Omega.{arith}
 use denote.Ref.{now}
-use Rattle.event_record.proofs.HandOut.{part-is}
+use Rattle.event_writer.proofs.Parts.{part-is}
 use Rattle.event_walk.proofs.Ends.{no-preamble, no-body, whole-from}
 use borrow.Author.Needs.{needs}
 use Rattle.event_walk.proofs.end_from_66.Statement.{statement}
