@@ -1,2 +1,4 @@
 pub mod Absolute
+pub mod Exact
 pub mod Numbers
+pub mod Rounding

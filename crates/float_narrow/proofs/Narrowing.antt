@@ -17,6 +17,9 @@ use lib.Ieee.Order.{drop}
 use lib.Ieee.Scale.{round-same}
 use borrow.Author.Tests.{ne-eqb}
 use Rattle.float_bits.proofs.Fields.{sig-lt, sig, exponent, Stands, stands}
+use Rattle.float_bits.specs.Exact.{num, den}
+use Rattle.float_bits.proofs.Exact.{num-is, den-is}
+use Rattle.float_bits.proofs.Rounding.{half-even-is}
 use Rattle.float_narrow.specs.Internal.{narrowBits}
 use Rattle.float_narrow.specs.Narrow.{narrow}
 use Rattle.float_narrow.proofs.Ranges.{bits-none, bits-infinite, bits-subnormal, bits-normal}
@@ -227,12 +230,12 @@ module _ (s : Bool) (r : ℕ) where
       go true u v a a' b b' c c' = none s (sig binary64 r) (e - 1) (sig-lt binary64 r) (small e (a tt)) ∙ ap (λ (k : ℕ). sign s + k) (bits-none r (a tt))
       go false true v a a' b b' c c' = from-digits (a' tt) (infinite s q (e - 1) (hi (a' tt)) lo (far-enough e (b tt)) (far e (b tt))) (bits-infinite r (a' tt) (b tt))
       go false false true a a' b b' c c' =
-          from-digits (a' tt) (subnormal s q (e - 1) (hi (a' tt)) (short e (c tt))) (plain (closest q (2 ^ (925 - (e - 1)))) ∙ ap (λ (k : ℕ). closest q (2 ^ k)) (digits e (a' tt)) ∙ bits-subnormal r (a' tt) (b' tt) (c tt))
+          from-digits (a' tt) (subnormal s q (e - 1) (hi (a' tt)) (short e (c tt))) (plain (closest q (2 ^ (925 - (e - 1)))) ∙ ap (λ (k : ℕ). closest q (2 ^ k)) (digits e (a' tt)) ∙ sym (half-even-is q (2 ^ (926 - e))) ∙ bits-subnormal r (a' tt) (b' tt) (c tt))
         where
           plain : (k : ℕ) → 0 * 8388608 + k ≡ k
           plain k = omega arith
       go false false false a a' b b' c c' =
-          from-digits (a' tt) (normal s q (e - 1) (hi (a' tt)) lo (long e (c' tt)) (near e (b' tt))) (ap (λ (k : ℕ). k * 8388608 + closest q (2 ^ 29)) (field e (c' tt)) ∙ bits-normal r (a' tt) (b' tt) (c' tt))
+          from-digits (a' tt) (normal s q (e - 1) (hi (a' tt)) lo (long e (c' tt)) (near e (b' tt))) (ap (λ (k : ℕ). k * 8388608 + closest q (2 ^ 29)) (field e (c' tt)) ∙ ap (λ (k : ℕ). (e - 897) * 8388608 + k) (sym (half-even-is q (2 ^ 29))) ∙ bits-normal r (a' tt) (b' tt) (c' tt))
 
 -- ---- an f64 that is no NaN
 abbrev pub pattern : ℕ → ℕ
@@ -241,14 +244,15 @@ pattern b = sign (leb (2 ^ 63) b) + narrowBits (b % 2 ^ 63)
 narrow-finite : (s : Bool) (m : ℕ) (e : ℤ) (b : ℕ) → Stands binary64 b (fin s m e) → narrow (fin s m e) ≡ Rounded (leb (2 ^ 63) b) (b % 2 ^ 63)
 unfolding narrow
 narrow-finite s m e b v =
-    round-same binary32 s (m * up e) (down e) (sig binary64 (b % 2 ^ 63) * 2 ^ exponent binary64 (b % 2 ^ 63)) L (down-pos e) (pow-pos 1074) (v .1)
-    ∙ ap (λ (t : Bool). round binary32 t (sig binary64 (b % 2 ^ 63) * 2 ^ exponent binary64 (b % 2 ^ 63)) L) (v .0)
+    rw (num-is (fin s m e), den-is (fin s m e))
+    (round-same binary32 s (m * up e) (down e) (sig binary64 (b % 2 ^ 63) * 2 ^ exponent binary64 (b % 2 ^ 63)) L (down-pos e) (pow-pos 1074) (v .1)
+    ∙ ap (λ (t : Bool). round binary32 t (sig binary64 (b % 2 ^ 63) * 2 ^ exponent binary64 (b % 2 ^ 63)) L) (v .0))
 
 narrow-fits : (x : Float) → T (fits binary32 (narrow x))
 unfolding narrow
 narrow-fits nan = nan-fits binary32
 narrow-fits (inf s) = inf-fits binary32 s
-narrow-fits (fin s m e) = round-fits binary32 s (m * up e) (down e)
+narrow-fits (fin s m e) = round-fits binary32 s (num (fin s m e)) (den (fin s m e))
 
 written : (x : Float) → T (fits binary64 x) → T (not (isNan x)) → toBits binary32 (narrow x) ≡ pattern (toBits binary64 x)
 unfolding isNan narrow narrowBits toBits

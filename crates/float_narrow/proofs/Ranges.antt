@@ -7,15 +7,16 @@ use native.Mathlib.Omega.{arith}
 use lib.Dec.{T, ltb, ltb→lt, nltb→le, lit≤}
 use lib.Pow.{pow-add, pow-pos, pow-mono}
 use lib.Ieee.Fits.{nearest-le}
-use lib.Ieee.Nearest.{closest}
+use Rattle.float_bits.specs.Rounding.{nearestHalfEven}
+use Rattle.float_bits.proofs.Rounding.{half-even-is}
 use borrow.Author.Tests.{lt-ltb, le-ltb}
 use Rattle.float_narrow.specs.Internal.{narrowBits}
 
 -- what is kept of 53 digits after 29 or more are dropped
-pub kept-most : (t q : ℕ) → 29 ≤ t → q < 2 ^ 53 → closest q (2 ^ t) ≤ 2 ^ 24
+pub kept-most : (t q : ℕ) → 29 ≤ t → q < 2 ^ 53 → nearestHalfEven q (2 ^ t) ≤ 2 ^ 24
 kept-most t q h l =
-    le-trans (nearest-le (q / 2 ^ t) (compare (q % 2 ^ t * 2) (2 ^ t)))
-    (div-lt-iff-lt-mul (pow-pos t) .1 (lt-of-lt-of-le l (le-trans (pow-mono (more h)) (le-of-eq (pow-add 2 24 t)))))
+    rw (half-even-is q (2 ^ t)) (le-trans (nearest-le (q / 2 ^ t) (compare (q % 2 ^ t * 2) (2 ^ t)))
+    (div-lt-iff-lt-mul (pow-pos t) .1 (lt-of-lt-of-le l (le-trans (pow-mono (more h)) (le-of-eq (pow-add 2 24 t))))))
   where
     more : 29 ≤ t → 53 ≤ 24 + t
     more k = omega arith
@@ -35,11 +36,11 @@ module _ (r : ℕ) where
   unfolding narrowBits
   bits-infinite g h = simp (le-ltb e 872 g, lt-ltb 1150 e h)
 
-  pub bits-subnormal : 872 ≤ e → e ≤ 1150 → e < 897 → closest q (2 ^ (926 - e)) ≡ narrowBits r
+  pub bits-subnormal : 872 ≤ e → e ≤ 1150 → e < 897 → nearestHalfEven q (2 ^ (926 - e)) ≡ narrowBits r
   unfolding narrowBits
   bits-subnormal g h k = simp (le-ltb e 872 g, le-ltb 1150 e h, lt-ltb e 897 k)
 
-  pub bits-normal : 872 ≤ e → e ≤ 1150 → 897 ≤ e → (e - 897) * 0x80_0000 + closest q (2 ^ 29) ≡ narrowBits r
+  pub bits-normal : 872 ≤ e → e ≤ 1150 → 897 ≤ e → (e - 897) * 0x80_0000 + nearestHalfEven q (2 ^ 29) ≡ narrowBits r
   unfolding narrowBits
   bits-normal g h k = simp (le-ltb e 872 g, le-ltb 1150 e h, le-ltb e 897 k)
 

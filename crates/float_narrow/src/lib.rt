@@ -1,7 +1,7 @@
 // From an f64 to the nearest f32, a tie to the even one (`as f32`), worked out from the bits.
 ghost use mathlib.Core.Path.{_≡_};
 ghost use Prim.Native.Nat.{_^_, _<_};
-ghost use lib.Ieee.Nearest.{closest};
+ghost use Rattle.float_bits.specs.Rounding.{nearestHalfEven};
 ghost use Rattle.float_narrow.specs.Internal.{narrowBits};
 ghost use Rattle.float_narrow.specs.Narrow.{narrow};
 use float_bits::f32_of_bits;
@@ -10,7 +10,7 @@ use float_bits::f32_of_bits;
 fn nearest_shift(n: u64, s: u64) -> u64
     requires { ⌜ n < 2 ^ 63 ⌝ }
     requires { ⌜ s < 64 ⌝ }
-    ensures { λ r. ⌜ r ≡ closest n (2 ^ s) ⌝ }
+    ensures { λ r. ⌜ r ≡ nearestHalfEven n (2 ^ s) ⌝ }
 {
     let unit = 1u64 << s;
     let kept = n / unit;

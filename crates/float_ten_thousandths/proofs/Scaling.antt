@@ -15,7 +15,10 @@ use lib.Ieee.Nearest.{div-same}
 use lib.Ieee.Exact.{HasValue}
 use lib.Ieee.Positive.{num, den, positive, den-pos, positive-finite, value→cross, between, le→cross}
 use Rattle.float_bits.proofs.Fields.{sig-lt, pow-lt-back, sig, exponent, Stands, stands}
-use Rattle.float_ten_thousandths.specs.TenThousandths.{nearestWhole, scaled}
+use Rattle.float_bits.proofs.Exact.{num-is, den-is}
+use Rattle.float_bits.proofs.Rounding.{half-up-is}
+use Rattle.float_bits.specs.Rounding.{nearestHalfUp}
+use Rattle.float_ten_thousandths.specs.TenThousandths.{scaled}
 use Rattle.float_ten_thousandths.proofs.Constants.{least}
 use Rattle.float_bits.specs.Numbers.{zeroF, largestMass}
 
@@ -25,8 +28,8 @@ unfolding ofInt largestMass
 top-is = refl
 
 -- ---- n / d to the nearest whole number, from the whole part of twice that
-from-halves : (n d : ℕ) → 0 < d → (n * 2 / d + 1) / 2 ≡ nearestWhole n d
-from-halves n d D = ap (λ (k : ℕ). k / 2) (sym (add-div-right (n * 2) D)) ∙ div-div-eq-div-mul (n * 2 + d) d 2
+from-halves : (n d : ℕ) → 0 < d → (n * 2 / d + 1) / 2 ≡ nearestHalfUp n d
+from-halves n d D = ap (λ (k : ℕ). k / 2) (sym (add-div-right (n * 2) D)) ∙ div-div-eq-div-mul (n * 2 + d) d 2 ∙ sym (half-up-is n d D)
 
 -- ---- a number above zero has no sign
 sign-of : (x : Float) (s : Bool) (a c : ℕ) → T (positive x) → HasValue x s a c → s ≡ false
@@ -148,15 +151,15 @@ module _ (x : Float) (F : T (fits binary64 x)) (a : T (le least x)) (h : T (le x
 
   pub scaled-is : (q * 625 / 2 ^ (1070 - E) + 1) / 2 ≡ scaled x
   unfolding scaled
-  scaled-is = ap (λ (k : ℕ). (k + 1) / 2) halves-are ∙ from-halves (num x * 10000) (den x) (den-pos x)
+  scaled-is = rw (num-is x, den-is x) (ap (λ (k : ℕ). (k + 1) / 2) halves-are ∙ from-halves (num x * 10000) (den x) (den-pos x))
 
 -- ---- an x from 0 to 2 ^ -15
 not-left : (p r : Bool) → T (not (p || r)) → T (not p)
 not-left true r k = absurd k
 not-left false r k = tt
 
-nothing : (n d : ℕ) → n * 20000 < d → 0 ≡ nearestWhole (n * 10000) d
-nothing n d k = sym (div-eq-of-lt (low k))
+nothing : (n d : ℕ) → n * 20000 < d → 0 ≡ nearestHalfUp (n * 10000) d
+nothing n d k = sym (half-up-is (n * 10000) d (omega arith) ∙ div-eq-of-lt (low k))
   where
     low : n * 20000 < d → n * 10000 * 2 + d < d * 2
     low l = omega arith
@@ -167,13 +170,13 @@ below-least nan p k = absurd p
 below-least (inf true) p k = absurd p
 below-least (inf false) p k = absurd k
 below-least (fin true m e) p k =
-    nothing (m * up e) (down e) (none (m * up e) (down e) (down-pos e) (eqb→eq (0 * down e) (m * up e * 1) (and-l (eqb (0 * down e) (m * up e * 1)) (eqb (0 * down e) 0) p)))
+    rw (num-is (fin true m e), den-is (fin true m e)) (nothing (m * up e) (down e) (none (m * up e) (down e) (down-pos e) (eqb→eq (0 * down e) (m * up e * 1) (and-l (eqb (0 * down e) (m * up e * 1)) (eqb (0 * down e) 0) p))))
   where
     none : (n d : ℕ) → 0 < d → 0 * d ≡ n * 1 → n * 20000 < d
     none n d D z = omega arith
 below-least (fin false m e) p k =
-    nothing (m * up e) (down e)
-    (few (m * up e) (down e) (down-pos e) (nltb→le (1 * down e) (m * up e * 32768) (not-left (ltb (1 * down e) (m * up e * 32768)) (eqb (1 * down e) (m * up e * 32768) && true) k)))
+    rw (num-is (fin false m e), den-is (fin false m e)) (nothing (m * up e) (down e)
+    (few (m * up e) (down e) (down-pos e) (nltb→le (1 * down e) (m * up e * 32768) (not-left (ltb (1 * down e) (m * up e * 32768)) (eqb (1 * down e) (m * up e * 32768) && true) k))))
   where
     few : (n d : ℕ) → 0 < d → n * 32768 ≤ 1 * d → n * 20000 < d
     few n d D l = omega arith

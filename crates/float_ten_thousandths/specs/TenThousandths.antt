@@ -1,21 +1,16 @@
--- A mass in ten-thousandths, by its exact binary value: a finite x is num x / den x, two whole numbers, and its sign. No
--- float is multiplied.
-use Prim.Native.Nat.{ℕ, _+_, _*_, _/_}
-use mathlib.Core.Bool.{false, _&&_, cond}
+-- A mass in ten-thousandths, by its exact binary value. No float is multiplied.
+use Prim.Native.Nat.{ℕ, _*_}
+use mathlib.Core.Bool.{_&&_, cond}
 use mathlib.Core.List.{[]}
-use lib.IntN.{pos}
-use lib.Ieee.{Float, fin, binary64, ofInt, le}
-use lib.Ieee.Positive.{num, den}
+use lib.Ieee.{Float, le}
 use Rattle.refusal.specs.Outcome.{Outcome, ok, refused}
+use Rattle.float_bits.specs.Exact.{num, den}
 use Rattle.float_bits.specs.Numbers.{largestMass, zeroF}
-
--- the rounding rule: n / d to the nearest whole number, a half up
-abbrev pub nearestWhole : ℕ → ℕ → ℕ
-nearestWhole n d = (n * 2 + d) / (d * 2)
+use Rattle.float_bits.specs.Rounding.{nearestHalfUp}
 
 -- the ten-thousandths of x without its sign
 unfoldable pub scaled : Float → ℕ
-scaled x = nearestWhole (num x * 10000) (den x)
+scaled x = nearestHalfUp (num x * 10000) (den x)
 
 -- refusal 9 for NaN, negative, above 50,000. -0 is not below 0.0
 unfoldable pub tenThousandths : Float → Outcome ℕ

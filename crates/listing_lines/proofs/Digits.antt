@@ -1,40 +1,31 @@
 -- A number by its last digit and those before it, and how many digits there are.
-use mathlib.Core.Path.{_≡_, refl, ap}
-use mathlib.Core.Bool.{Bool, true, false}
+use mathlib.Core.Path.{_≡_, refl}
 use mathlib.Core.List.{List, [], _∷_, _++_}
 use mathlib.Core.Logic.{⊎-elim}
 use Prim.Native.Nat.{ℕ, zero, suc, _+_, _-_, _/_, _%_, _^_, _≤_, _<_}
 use native.Mathlib.Nat.{pow-succ'}
 use native.Mathlib.Numerals.{add-one}
 use native.Mathlib.Omega.{arith}
-use borrow.Author.Tests.{lt-ltb, le-ltb, ltb-false}
-use lib.Dec.{ltb}
 use lib.ListN.{length, length-append}
 use Rattle.lists.proofs.Cases.{le-or-lt}
-use Rattle.listing_lines.specs.Lines.{digit, lastOff, decimalBy, decimal, hexadecimal}
+use Rattle.listing_lines.specs.Decimal.{digit, Decimal, one, more}
+use Rattle.listing_lines.specs.Internal.{inDecimal}
+use Rattle.listing_lines.specs.Lines.{decimal, hexadecimal}
 
--- ---- any count of digits above the number will do
-last-off-same : (t : Bool) (n : ℕ) (f g : ℕ → List ℕ) → (t ≡ false → f (n / 10) ≡ g (n / 10)) → lastOff t n f ≡ lastOff t n g
-last-off-same true n f g h = refl
-last-off-same false n f g h = rw (h refl)
-
-decimal-same : (a b n : ℕ) → n < a → n < b → decimalBy a n ≡ decimalBy b n
-unfolding decimalBy
-decimal-same zero b n h k = absurd (omega arith)
-decimal-same (suc a) zero n h k = absurd (omega arith)
-decimal-same (suc a) (suc b) n h k =
-    last-off-same (ltb n 10) n (decimalBy a) (decimalBy b)
-    (λ (t : ltb n 10 ≡ false).
-    let large = ltb-false n 10 t in
-    decimal-same a b (n / 10) (omega arith) (omega arith))
+-- a number has one text in decimal
+pub decimal-unique : {n : ℕ} {s t : List ℕ} → Decimal n s → Decimal n t → s ≡ t
+decimal-unique (one n h) (one m k) = refl
+decimal-unique (one n h) (more m g k q) = absurd (omega arith)
+decimal-unique (more n f h p) (one m k) = absurd (omega arith)
+decimal-unique (more n f h p) (more m g k q) = rw (decimal-unique p q)
 
 pub decimal-one : (n : ℕ) → n < 10 → decimal n ≡ digit n ∷ []
-unfolding decimalBy decimal
-decimal-one n small = simp (lt-ltb n 10 small)
+unfolding decimal
+decimal-one n small = decimal-unique (inDecimal n .1) (one n small)
 
 pub decimal-more : (n : ℕ) → 10 ≤ n → decimal n ≡ decimal (n / 10) ++ (digit (n % 10) ∷ [])
-unfolding decimalBy decimal
-decimal-more n large = rw (le-ltb n 10 large) (ap (λ l. l ++ (digit (n % 10) ∷ [])) (decimal-same n (suc (n / 10)) (n / 10) (omega arith) (omega arith)))
+unfolding decimal
+decimal-more n large = decimal-unique (inDecimal n .1) (more n (decimal (n / 10)) large (inDecimal (n / 10) .1))
 
 pub decimal-length : (k n : ℕ) → n < 10 ^ suc k → length (decimal n) ≤ suc k
 decimal-length zero n h = rw (decimal-one n (omega arith)) (omega arith)

@@ -8,7 +8,9 @@ use Rattle.refusal.specs.declared.Part.the-variants.{Header, Data}
 use Rattle.refusal.specs.declared.Refusal.the-variants.{Short, InvalidPrecursorMz, NoRoom}
 use Rattle.text.specs.Text.{ascii}
 use Rattle.float_ten_thousandths.specs.TenThousandths.{scaled, tenThousandths}
-use Rattle.listing_lines.specs.Lines.{digit, decimalBy, decimal, hexadecimal, bits, trayLine, refusalLine, scanLines}
+use Rattle.listing_lines.specs.Decimal.{digit}
+use Rattle.listing_lines.specs.Internal.{decimalBy}
+use Rattle.listing_lines.specs.Lines.{decimal, hexadecimal, bits, trayLine, refusalLine, scanLines}
 use Rattle.float_bits.specs.Numbers.{largestMass}
 
 pub numbers : (decimal 0 ≡ ascii "0") × (decimal 9 ≡ ascii "9") × (decimal 10 ≡ ascii "10") × (decimal 18446744073709551615 ≡ ascii "18446744073709551615")

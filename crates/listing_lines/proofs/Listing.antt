@@ -9,9 +9,9 @@ use lib.ListN.{length, getD, take, drop, replicate, length-append}
 use lib.Seq.{take-nil, drop-nil, drop-cons}
 use Rattle.text.specs.Text.{ascii}
 use Rattle.listing_lines.specs.Lines.{decimal, line, mass, bits, pairLines, scanLines}
-use Rattle.listing_lines.specs.Internal.{Put}
+use Rattle.listing_lines.specs.Internal.{Appends}
 use Rattle.listing_lines.proofs.Digits.{hexadecimal-length}
-use Rattle.listing_lines.proofs.Places.{put-then, put-front}
+use Rattle.listing_lines.proofs.Places.{append-then, append-front}
 use Rattle.listing_lines.proofs.Room.{numbered}
 
 -- the line of the i-th pair. The lists have one, so d does not matter
@@ -40,9 +40,9 @@ lines-all (m ∷ mz) (x ∷ intensity) (suc i) h = ap (λ l. line (mass m ∷ bi
 
 -- a turn of the loop, which started at a place of the slice xs, and its end
 pub turn : (mz intensity : List Float) (i : ℕ) (d : Float) {start : ℕ} {xs : List ℕ} {at : ℕ} {X : List ℕ} {next : ℕ} {Y : List ℕ}
-    → Put (linesTo mz intensity i) start xs at X → i < length mz → i < length intensity → Put (lineAt mz intensity i d) at X next Y
-    → Put (linesTo mz intensity (i + 1)) start xs next Y
-turn mz intensity i d p h k q = rw (add-one i, lines-more mz intensity i d h k) (put-then p q)
+    → Appends (linesTo mz intensity i) start xs at X → i < length mz → i < length intensity → Appends (lineAt mz intensity i d) at X next Y
+    → Appends (linesTo mz intensity (i + 1)) start xs next Y
+turn mz intensity i d p h k q = rw (add-one i, lines-more mz intensity i d h k) (append-then p q)
 
 -- the lines of the pairs from the i-th on, for a loop that adds up their lengths
 abbrev pub linesFrom : List Float → List Float → ℕ → List ℕ
@@ -66,7 +66,7 @@ size-end (m ∷ mz) (x ∷ intensity) zero h = absurd (omega arith)
 size-end (m ∷ mz) (x ∷ intensity) (suc i) h = size-end mz intensity i (omega arith)
 
 pub end : (mz intensity : List Float) (i : ℕ) {start : ℕ} {xs : List ℕ} {at : ℕ} {X : List ℕ}
-    → Put (linesTo mz intensity i) start xs at X → min (length mz) (length intensity) ≤ i → Put (pairLines mz intensity) start xs at X
+    → Appends (linesTo mz intensity i) start xs at X → min (length mz) (length intensity) ≤ i → Appends (pairLines mz intensity) start xs at X
 end mz intensity i p h = rw (← lines-all mz intensity i h) p
 
 -- the first line has the count of pairs
@@ -77,8 +77,8 @@ with-count number coefficients mz intensity pairs e = rw e
 
 -- and its length is known before anything is written: it was made in an array
 pub first-size : (number coefficients : ℕ) (mz intensity : List Float) (pairs : ℕ) → pairs ≡ min (length mz) (length intensity)
-    → {n : ℕ} {X : List ℕ} → Put (line (ascii "S" ∷ decimal number ∷ decimal pairs ∷ decimal coefficients ∷ [])) 0 (replicate 64 0) n X
+    → {n : ℕ} {X : List ℕ} → Appends (line (ascii "S" ∷ decimal number ∷ decimal pairs ∷ decimal coefficients ∷ [])) 0 (replicate 64 0) n X
     → number < 2 ^ 32 → pairs < 2 ^ 64 → coefficients < 2 ^ 64
     → n + length (linesFrom mz intensity 0) ≡ length (scanLines number coefficients mz intensity)
 first-size number coefficients mz intensity pairs e p a b c =
-    rw (← with-count number coefficients mz intensity pairs e, length-append) (ap (λ k. k + length (pairLines mz intensity)) (put-front p (numbered 83 number pairs coefficients a b c) .0))
+    rw (← with-count number coefficients mz intensity pairs e, length-append) (ap (λ k. k + length (pairLines mz intensity)) (append-front p (numbered 83 number pairs coefficients a b c) .0))

@@ -8,14 +8,18 @@ use native.Mathlib.Omega.{arith}
 use lib.Dec.{T, ltb, eqb, ltb→lt, eqb→eq, lit<}
 use lib.Ieee.{Float, nan, inf, fin, binary64, up, down, ofInt, toBits, lt, eq, le}
 use lib.Ieee.Fits.{and-l}
-use lib.Ieee.Positive.{num, den, den-pos}
+use lib.Ieee.Positive.{den-pos}
 use lib.ListN.{length, length-append}
 use Rattle.refusal.specs.Outcome.{ok, refused}
 use Rattle.refusal.specs.Number.{number as numberOf, carried}
 use Rattle.refusal.specs.declared.Part.the-variants.{Header, Index, Event, Data}
 use Rattle.refusal.specs.declared.Refusal.{Refusal}
 use Rattle.refusal.specs.declared.Refusal.the-variants.{Short, UnrecognizedScanRecord, InvalidPrecursorMz, BodyTooShort, FlatWord, TooManyScans, NoSuchScan, NoRoom, MassOutOfRange}
-use Rattle.float_ten_thousandths.specs.TenThousandths.{nearestWhole, scaled, tenThousandths}
+use Rattle.float_ten_thousandths.specs.TenThousandths.{scaled, tenThousandths}
+use Rattle.float_bits.specs.Exact.{num, den}
+use Rattle.float_bits.specs.Rounding.{nearestHalfUp}
+use Rattle.float_bits.proofs.Exact.{num-is, den-is}
+use Rattle.float_bits.proofs.Rounding.{half-up-is}
 use Rattle.listing_lines.specs.Lines.{decimal, line, listed, mass, bits, partIn, trayLine, refusalLine, pairLines, scanLines}
 use Rattle.listing_lines.proofs.Digits.{decimal-length, hexadecimal-length}
 use Rattle.float_bits.specs.Numbers.{zeroF, largestMass}
@@ -32,26 +36,28 @@ fraction-most : (x : Float) → T (le zeroF x) → T (le x largestMass) → num 
 unfolding le lt eq ofInt largestMass
 fraction-most nan p q = omega arith
 fraction-most (inf s) p q = omega arith
-fraction-most (fin true m e) p q = zero-size (m * up e) (down e) (eqb→eq (0 * down e) (m * up e * 1) (and-l (eqb (0 * down e) (m * up e * 1)) (eqb (0 * down e) 0) p))
+fraction-most (fin true m e) p q =
+    let z = eqb→eq (0 * down e) (m * up e * 1) (and-l (eqb (0 * down e) (m * up e * 1)) (eqb (0 * down e) 0) p) in
+    rw (num-is (fin true m e), den-is (fin true m e)) (zero-size (m * up e) (down e) z)
   where
     zero-size : (n d : ℕ) → 0 * d ≡ n * 1 → n ≤ 50000 * d
     zero-size n d z = omega arith
-fraction-most (fin false m e) p q = tidy (m * up e) (down e) (at-most (m * up e * 1) (50000 * down e) true q)
+fraction-most (fin false m e) p q = rw (num-is (fin false m e), den-is (fin false m e)) (tidy (m * up e) (down e) (at-most (m * up e * 1) (50000 * down e) true q))
   where
     tidy : (n d : ℕ) → n * 1 ≤ 50000 * d → n ≤ 50000 * d
     tidy n d h = omega arith
 
-nearest-most : (n d : ℕ) → 0 < d → n ≤ 50000 * d → nearestWhole (n * 10000) d < 10 ^ 9
+nearest-most : (n d : ℕ) → 0 < d → n ≤ 50000 * d → nearestHalfUp (n * 10000) d < 10 ^ 9
 nearest-most n d D h =
     let D2 : 0 < d * 2 = omega arith in
-    div-lt-iff-lt-mul D2 .1 (omega arith)
+    rw (half-up-is (n * 10000) d D) (div-lt-iff-lt-mul D2 .1 (omega arith))
 
 pub mass-most : (mz : Float) → length (mass mz) ≤ 9
 unfolding tenThousandths scaled
 mass-most mz = go (le zeroF mz) (le mz largestMass) (fraction-most mz)
   where
-    go : (above below : Bool) → (T above → T below → num mz ≤ 50000 * den mz) → length (listed (cond (above && below) (ok (nearestWhole (num mz * 10000) (den mz))) (refused 9 []))) ≤ 9
-    go true true h = decimal-length 8 _ (nearest-most (num mz) (den mz) (den-pos mz) (h tt tt))
+    go : (above below : Bool) → (T above → T below → num mz ≤ 50000 * den mz) → length (listed (cond (above && below) (ok (nearestHalfUp (num mz * 10000) (den mz))) (refused 9 []))) ≤ 9
+    go true true h = decimal-length 8 _ (nearest-most (num mz) (den mz) (rw (den-is mz) (den-pos mz)) (h tt tt))
     go true false h = omega arith
     go false below h = omega arith
 

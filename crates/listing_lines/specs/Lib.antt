@@ -1,2 +1,3 @@
-pub mod Lines
+pub mod Decimal
 pub mod Internal
+pub mod Lines

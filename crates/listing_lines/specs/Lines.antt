@@ -1,42 +1,26 @@
 -- The lines of the listing program, as bytes (document 01, "Tray").
-use Prim.Native.Nat.{ℕ, zero, suc, _+_, _/_, _%_, min}
-use mathlib.Core.Bool.{Bool, true, false, cond}
+use Prim.Native.Nat.{ℕ, zero, suc, _/_, _%_, min}
+use mathlib.Core.Bool.{cond}
 use mathlib.Core.List.{List, [], _∷_, _++_}
-use lib.Dec.{ltb, eqb}
+use lib.Dec.{eqb}
 use lib.Ieee.{Float, binary64, toBits}
 use lib.ListN.{length, getD}
 use Rattle.refusal.specs.Outcome.{Outcome, ok, refused}
 use Rattle.refusal.specs.Number.{number as numberOf, carried}
 use Rattle.refusal.specs.declared.Refusal.{Refusal}
 use Rattle.text.specs.Text.{ascii}
+use Rattle.listing_lines.specs.Decimal.{digit}
+use Rattle.listing_lines.specs.Internal.{inDecimal}
 use Rattle.float_ten_thousandths.specs.TenThousandths.{tenThousandths}
 
--- the character of a digit below 16
-unfoldable pub digit : ℕ → ℕ
-digit d = getD (ascii "0123456789abcdef") d 0
-
--- n by its last digit, and those of n / 10 where n has more than one
-abbrev pub lastOff : Bool → ℕ → (ℕ → List ℕ) → List ℕ
-lastOff true n others = digit n ∷ []
-lastOff false n others = others (n / 10) ++ (digit (n % 10) ∷ [])
-
--- n in decimal, in at most `most` digits
-unfoldable pub decimalBy : ℕ → ℕ → List ℕ
-decimalBy zero n = []
-decimalBy (suc most) n = lastOff (ltb n 10) n (decimalBy most)
-
--- n in decimal, with no zeros in front: `decimal-one` and `decimal-more` of proofs/Digits.antt. No n has more than n + 1 digits
+-- n in decimal: the one text that `Decimal` has of n
 unfoldable pub decimal : ℕ → List ℕ
-decimal n = decimalBy (suc n) n
+decimal n = inDecimal n .0
 
 -- the last k hexadecimal digits of n
 unfoldable pub hexadecimal : ℕ → ℕ → List ℕ
 hexadecimal zero n = []
 hexadecimal (suc k) n = hexadecimal k (n / 16) ++ (digit (n % 16) ∷ [])
-
--- n in 16 hexadecimal digits
-abbrev pub hex16 : ℕ → List ℕ
-hex16 n = hexadecimal 16 n
 
 -- fields one space apart, and a line feed
 abbrev pub line : List (List ℕ) → List ℕ
@@ -54,7 +38,7 @@ mass mz = listed (tenThousandths mz)
 
 -- an intensity's bits in 16 hexadecimal digits. `Float` has one NaN, and its bits are 7ff8000000000000
 abbrev pub bits : Float → List ℕ
-bits intensity = hex16 (toBits binary64 intensity)
+bits intensity = hexadecimal 16 (toBits binary64 intensity)
 
 -- `T version count`
 unfoldable pub trayLine : ℕ → ℕ → List ℕ

@@ -8,8 +8,9 @@ ghost use lib.ListN.{length};
 ghost use Rattle.lists.specs.Left.{LeftList};
 ghost use Rattle.refusal.specs.Number.{number as numberOf, carried};
 ghost use Rattle.text.specs.Text.{ascii};
-ghost use Rattle.listing_lines.specs.Lines.{digit, decimal, hexadecimal, line, mass, bits, partIn, trayLine, refusalLine, scanLines};
-ghost use Rattle.listing_lines.specs.Internal.{Put};
+ghost use Rattle.listing_lines.specs.Decimal.{digit};
+ghost use Rattle.listing_lines.specs.Lines.{decimal, hexadecimal, line, mass, bits, partIn, trayLine, refusalLine, scanLines};
+ghost use Rattle.listing_lines.specs.Internal.{Appends};
 use float_bits::bits_of_f64;
 use float_ten_thousandths::ten_thousandths;
 use reader::smaller;
@@ -17,10 +18,10 @@ use refusal::CountAnswer;
 use refusal::Refusal;
 use text::write;
 
-// Every `put` function writes from a place on and answers the place after what it wrote, where the next one goes on. Who
+// Every `append` function writes from a place on and answers the place after what it wrote, where the next one goes on. Who
 // calls it has judged the room: nothing is written after the slice's end, and what comes back then says nothing.
-fn put(byte: u8, at: usize, out: &mut [u8]) -> usize
-    ensures { λ r. ⌜ Put (byte ∷ []) at (now (out .entry)) r (now (out .exit)) ⌝ }
+fn append(byte: u8, at: usize, out: &mut [u8]) -> usize
+    ensures { λ r. ⌜ Appends (byte ∷ []) at (now (out .entry)) r (now (out .exit)) ⌝ }
 {
     if at < out.len() {
         out[at] = byte;
@@ -39,54 +40,54 @@ fn digit(d: u64) -> u8
     digits[d as usize]
 }
 
-fn put_decimal(n: u64, at: usize, out: &mut [u8]) -> usize
-    ensures { λ r. ⌜ Put (decimal n) at (now (out .entry)) r (now (out .exit)) ⌝ }
+fn append_decimal(n: u64, at: usize, out: &mut [u8]) -> usize
+    ensures { λ r. ⌜ Appends (decimal n) at (now (out .entry)) r (now (out .exit)) ⌝ }
 {
     if n < 10 {
-        return put(digit(n), at, out);
+        return append(digit(n), at, out);
     }
-    let last = put_decimal(n / 10, at, out);
-    put(digit(n % 10), last, out)
+    let last = append_decimal(n / 10, at, out);
+    append(digit(n % 10), last, out)
 }
 
 // The last `digits` hexadecimal digits of n.
-fn put_hexadecimal(digits: u32, n: u64, at: usize, out: &mut [u8]) -> usize
-    ensures { λ r. ⌜ Put (hexadecimal digits n) at (now (out .entry)) r (now (out .exit)) ⌝ }
+fn append_hexadecimal(digits: u32, n: u64, at: usize, out: &mut [u8]) -> usize
+    ensures { λ r. ⌜ Appends (hexadecimal digits n) at (now (out .entry)) r (now (out .exit)) ⌝ }
 {
     if digits == 0 {
         return at;
     }
-    let last = put_hexadecimal(digits - 1, n / 16, at, out);
-    put(digit(n % 16), last, out)
+    let last = append_hexadecimal(digits - 1, n / 16, at, out);
+    append(digit(n % 16), last, out)
 }
 
 // A space, and a number in decimal.
-fn put_number(n: u64, at: usize, out: &mut [u8]) -> usize
-    ensures { λ r. ⌜ Put (ascii " " ++ decimal n) at (now (out .entry)) r (now (out .exit)) ⌝ }
+fn append_number(n: u64, at: usize, out: &mut [u8]) -> usize
+    ensures { λ r. ⌜ Appends (ascii " " ++ decimal n) at (now (out .entry)) r (now (out .exit)) ⌝ }
 {
-    let next = put(b' ', at, out);
-    put_decimal(n, next, out)
+    let next = append(b' ', at, out);
+    append_decimal(n, next, out)
 }
 
 // A line of a mark and two numbers.
-fn put_two(mark: u8, a: u64, b: u64, out: &mut [u8]) -> usize
-    ensures { λ r. ⌜ Put (line ((mark ∷ []) ∷ decimal a ∷ decimal b ∷ [])) 0 (now (out .entry)) r (now (out .exit)) ⌝ }
+fn append_two(mark: u8, a: u64, b: u64, out: &mut [u8]) -> usize
+    ensures { λ r. ⌜ Appends (line ((mark ∷ []) ∷ decimal a ∷ decimal b ∷ [])) 0 (now (out .entry)) r (now (out .exit)) ⌝ }
 {
-    let start = put(mark, 0, out);
-    let first = put_number(a, start, out);
-    let second = put_number(b, first, out);
-    put(b'\n', second, out)
+    let start = append(mark, 0, out);
+    let first = append_number(a, start, out);
+    let second = append_number(b, first, out);
+    append(b'\n', second, out)
 }
 
 // A line of a mark and three numbers.
-fn put_three(mark: u8, a: u64, b: u64, c: u64, out: &mut [u8]) -> usize
-    ensures { λ r. ⌜ Put (line ((mark ∷ []) ∷ decimal a ∷ decimal b ∷ decimal c ∷ [])) 0 (now (out .entry)) r (now (out .exit)) ⌝ }
+fn append_three(mark: u8, a: u64, b: u64, c: u64, out: &mut [u8]) -> usize
+    ensures { λ r. ⌜ Appends (line ((mark ∷ []) ∷ decimal a ∷ decimal b ∷ decimal c ∷ [])) 0 (now (out .entry)) r (now (out .exit)) ⌝ }
 {
-    let start = put(mark, 0, out);
-    let first = put_number(a, start, out);
-    let second = put_number(b, first, out);
-    let third = put_number(c, second, out);
-    put(b'\n', third, out)
+    let start = append(mark, 0, out);
+    let first = append_number(a, start, out);
+    let second = append_number(b, first, out);
+    let third = append_number(c, second, out);
+    append(b'\n', third, out)
 }
 
 // `T version count`. No line of numbers is longer than 64 bytes.
@@ -94,7 +95,7 @@ pub fn write_tray_line(version: u32, scans: u32, out: &mut [u8]) -> CountAnswer
     ensures { λ r. ⌜ LeftList (trayLine version scans) (now (out .entry)) r (now (out .exit)) ⌝ }
 {
     let mut text = [0u8; 64];
-    let n = put_two(b'T', version as u64, scans as u64, &mut text);
+    let n = append_two(b'T', version as u64, scans as u64, &mut text);
     write(&text[..n], out)
 }
 
@@ -113,7 +114,7 @@ pub fn write_refusal_line(number: u32, refusal: Refusal, out: &mut [u8]) -> Coun
     ensures { λ r. ⌜ LeftList (refusalLine number refusal) (now (out .entry)) r (now (out .exit)) ⌝ }
 {
     let mut text = [0u8; 64];
-    let n = put_three(
+    let n = append_three(
         b'X',
         number as u64,
         refusal.number(),
@@ -124,23 +125,23 @@ pub fn write_refusal_line(number: u32, refusal: Refusal, out: &mut [u8]) -> Coun
 }
 
 // An m/z in ten-thousandths, or `-` where it has none.
-fn put_mass(mz: f64, at: usize, out: &mut [u8]) -> usize
-    ensures { λ r. ⌜ Put (mass mz) at (now (out .entry)) r (now (out .exit)) ⌝ }
+fn append_mass(mz: f64, at: usize, out: &mut [u8]) -> usize
+    ensures { λ r. ⌜ Appends (mass mz) at (now (out .entry)) r (now (out .exit)) ⌝ }
 {
     match ten_thousandths(mz) {
-        CountAnswer::Count(n) => put_decimal(n, at, out),
-        CountAnswer::Refused(_) => put(b'-', at, out),
+        CountAnswer::Count(n) => append_decimal(n, at, out),
+        CountAnswer::Refused(_) => append(b'-', at, out),
     }
 }
 
 // The line of a pair.
-fn put_pair(mz: f64, intensity: f64, at: usize, out: &mut [u8]) -> usize
-    ensures { λ r. ⌜ Put (line (mass mz ∷ bits intensity ∷ [])) at (now (out .entry)) r (now (out .exit)) ⌝ }
+fn append_pair(mz: f64, intensity: f64, at: usize, out: &mut [u8]) -> usize
+    ensures { λ r. ⌜ Appends (line (mass mz ∷ bits intensity ∷ [])) at (now (out .entry)) r (now (out .exit)) ⌝ }
 {
-    let space = put_mass(mz, at, out);
-    let next = put(b' ', space, out);
-    let end = put_hexadecimal(16, bits_of_f64(intensity), next, out);
-    put(b'\n', end, out)
+    let space = append_mass(mz, at, out);
+    let next = append(b' ', space, out);
+    let end = append_hexadecimal(16, bits_of_f64(intensity), next, out);
+    append(b'\n', end, out)
 }
 
 // As many pairs as both lists have.
@@ -151,14 +152,20 @@ fn pair_count(mz: &[f64], intensity: &[f64]) -> usize
 }
 
 // The lines of a scan.
-fn put_scan(number: u32, coefficients: u64, mz: &[f64], intensity: &[f64], out: &mut [u8]) -> usize
-    ensures { λ r. ⌜ Put (scanLines number coefficients (now (mz .entry)) (now (intensity .entry))) 0 (now (out .entry)) r (now (out .exit)) ⌝ }
+fn append_scan(
+    number: u32,
+    coefficients: u64,
+    mz: &[f64],
+    intensity: &[f64],
+    out: &mut [u8],
+) -> usize
+    ensures { λ r. ⌜ Appends (scanLines number coefficients (now (mz .entry)) (now (intensity .entry))) 0 (now (out .entry)) r (now (out .exit)) ⌝ }
 {
     let pairs = pair_count(mz, intensity);
-    let mut at = put_three(b'S', number as u64, pairs as u64, coefficients, out);
+    let mut at = append_three(b'S', number as u64, pairs as u64, coefficients, out);
     let mut i: usize = 0;
     while i < pairs {
-        at = put_pair(mz[i], intensity[i], at, out);
+        at = append_pair(mz[i], intensity[i], at, out);
         i = i + 1;
     }
     at
@@ -169,7 +176,7 @@ fn mass_size(mz: f64) -> usize
     ensures { λ r. ⌜ r ≡ length (mass mz) ⌝ }
 {
     let mut text = [0u8; 9];
-    put_mass(mz, 0, &mut text)
+    append_mass(mz, 0, &mut text)
 }
 
 // Whether the lines of a scan fit into so many bytes. Without the mass, a pair's line has 18.
@@ -179,7 +186,7 @@ fn scan_fits(number: u32, coefficients: u64, mz: &[f64], intensity: &[f64], room
 {
     let pairs = pair_count(mz, intensity);
     let mut text = [0u8; 64];
-    let mut size = put_three(b'S', number as u64, pairs as u64, coefficients, &mut text);
+    let mut size = append_three(b'S', number as u64, pairs as u64, coefficients, &mut text);
     let mut measured: usize = 0;
     while measured < pairs {
         if size > room {
@@ -202,7 +209,7 @@ pub fn write_scan_lines(
     ensures { λ r. ⌜ LeftList (scanLines number coefficients (now (mz .entry)) (now (intensity .entry))) (now (out .entry)) r (now (out .exit)) ⌝ }
 {
     if scan_fits(number, coefficients, mz, intensity, out.len()) {
-        CountAnswer::Count(put_scan(number, coefficients, mz, intensity, out) as u64)
+        CountAnswer::Count(append_scan(number, coefficients, mz, intensity, out) as u64)
     } else {
         CountAnswer::Refused(Refusal::NoRoom)
     }

@@ -19,7 +19,9 @@ use Rattle.peaks.specs.Peaks.{peak}
 use Rattle.pairs.specs.Pairs.{peakPairs}
 use Rattle.float_ten_thousandths.specs.TenThousandths.{scaled, tenThousandths}
 use Rattle.float_bits.specs.Numbers.{largestMass}
-use Rattle.listing_lines.specs.Lines.{digit, decimalBy, decimal, hexadecimal, trayLine, scanLines}
+use Rattle.listing_lines.specs.Decimal.{digit}
+use Rattle.listing_lines.specs.Internal.{decimalBy}
+use Rattle.listing_lines.specs.Lines.{decimal, hexadecimal, trayLine, scanLines}
 use Rattle.tray_header.specs.Header.{header, judged, readHeader}
 use Rattle.tray_data.specs.Data.{scanData, pairs}
 use Rattle.tray_scan.specs.Scan.{handOut, withData}

@@ -19,7 +19,9 @@ use Rattle.refusal.proofs.OneAnswer.{count-one}
 use Rattle.lists.specs.Left.{LeftList}
 use Rattle.parser.specs.LongerBytes.{Bytes, Held, PrefixProperty, CompletesOn}
 use Rattle.text.specs.Text.{ascii}
-use Rattle.listing_lines.specs.Lines.{digit, decimalBy, decimal, partIn, refusedLine, trayLine, scanLines}
+use Rattle.listing_lines.specs.Decimal.{digit}
+use Rattle.listing_lines.specs.Internal.{decimalBy}
+use Rattle.listing_lines.specs.Lines.{decimal, partIn, refusedLine, trayLine, scanLines}
 use Rattle.tray_header.specs.Header.{readTrayHeader}
 use Rattle.tray_header.specs.Header as header
 use Rattle.tray_header.specs.declared.TrayHeader.{TrayHeader}

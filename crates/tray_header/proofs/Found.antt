@@ -9,7 +9,7 @@ use lib.ListN.{length}
 use borrow.Author.Tests.{leb-true}
 use Rattle.refusal.specs.Outcome.{ok, refused}
 use Rattle.refusal.proofs.Outcomes.{ok-not-refused}
-use Rattle.parser.specs.Parser.{parsed, parse, left}
+use Rattle.parser.specs.Parser.{parsed, parse}
 use Rattle.parser.specs.LongerBytes.{Bytes}
 use Rattle.parser.proofs.Answered.{part-ok}
 use Rattle.parser.proofs.Records.{sized-read}

@@ -6,8 +6,8 @@ use native.Mathlib.Omega.{arith}
 use lib.Dec.{lit<}
 use lib.Arith.{lt-of-le-ne}
 use lib.Pow.{pow-pos, shl-exact}
-use lib.Ieee.Nearest.{closest}
-use Rattle.float_bits.proofs.Compare.{nearest-below, nearest-tie, nearest-above}
+use Rattle.float_bits.specs.Rounding.{nearestHalfEven}
+use Rattle.float_bits.proofs.Rounding.{even-below, even-tie, even-above}
 use borrow.Author.Needs.{needs}
 use Rattle.float_narrow.proofs.nearest_shift.Statement.{statement}
 use Rattle.float_narrow.proofs.nearest_shift.Tie as tie
@@ -41,15 +41,15 @@ add-result-2 : tie.Need-add-result-2
 add-result-2 c = let l = div-le-self (c .before .before .args .n) (unit (c .before .before .args .s)) in search needs
 
 returns : tie.Need-returns
-returns c = nearest-below _ _ (c .if1 .taken) ∙ ap (closest (c .before .args .n)) (unit-is (c .before .args .s) (c .before .pre .1))
+returns c = sym (even-below _ _ (c .if1 .taken)) ∙ ap (nearestHalfEven (c .before .args .n)) (unit-is (c .before .args .s) (c .before .pre .1))
 
 returns-2 : tie.Need-returns-2
-returns-2 c = nearest-tie _ _ (c .if2 .taken) ∙ ap (closest (c .before .before .args .n)) (unit-is (c .before .before .args .s) (c .before .before .pre .1))
+returns-2 c = sym (even-tie _ _ (c .if2 .taken)) ∙ ap (nearestHalfEven (c .before .before .args .n)) (unit-is (c .before .before .args .s) (c .before .before .pre .1))
 
 returns-3 : tie.Need-returns-3
 returns-3 c =
     let a = c .before .before .args in
-    nearest-above _ _ (lt-of-le-ne (c .before .if1 .left) (λ e. c .if2 .left (sym e))) ∙ ap (closest (a .n)) (unit-is (a .s) (c .before .before .pre .1))
+    sym (even-above _ _ (lt-of-le-ne (c .before .if1 .left) (λ e. c .if2 .left (sym e)))) ∙ ap (nearestHalfEven (a .n)) (unit-is (a .s) (c .before .before .pre .1))
 
 pub nearest-shift-spec : {M : Type 1} → statement M
 nearest-shift-spec = tie.close (tie.spec (search needs) div-kept rem-rest mul-rest add-result add-result-2 returns returns-2 returns-3)

@@ -1,5 +1,5 @@
 -- `listing_lines::digit` meets its contract.
-use Rattle.listing_lines.specs.Lines.{digit}
+use Rattle.listing_lines.specs.Decimal.{digit}
 use borrow.Author.Needs.{needs}
 use Rattle.listing_lines.proofs.digit.Statement.{statement}
 use Rattle.listing_lines.proofs.digit.Tie as tie

@@ -24,7 +24,7 @@ loop-holds : tie.Need-loop-holds Inv-loop μ-loop
 loop-holds c =
     let q = c .before .before .before in
     let a = q .before .before .before .args in
-    first-size (a .number) (a .coefficients) (now (a .mz)) (now (a .intensity)) _ (q .pair-count .ensures) (c .before .put-three .ensures) (omega arith) (omega arith) (omega arith)
+    first-size (a .number) (a .coefficients) (now (a .mz)) (now (a .intensity)) _ (q .pair-count .ensures) (c .before .append-three .ensures) (omega arith) (omega arith) (omega arith)
 
 returns : tie.Need-returns Inv-loop μ-loop
 returns c =

@@ -2,7 +2,7 @@
 use mathlib.Core.Path.{sym, _∙_}
 use borrow.Author.Tests.{leb-true, leb-false}
 use Rattle.lists.proofs.Left.{list-no-room, list-written}
-use Rattle.listing_lines.proofs.Places.{put-front}
+use Rattle.listing_lines.proofs.Places.{append-front}
 use borrow.Author.Needs.{needs}
 use Rattle.listing_lines.proofs.write_scan_lines.Statement.{statement}
 use Rattle.listing_lines.proofs.write_scan_lines.Tie as tie
@@ -11,7 +11,7 @@ returns : tie.Need-returns
 returns c =
     let p = c .before .before in
     let room = leb-true _ _ (sym (p .before .before .before .scan-fits .ensures) ∙ p .before .before .if1 .taken) in
-    let w = put-front (p .put-scan .ensures) room in
+    let w = append-front (p .append-scan .ensures) room in
     list-written _ _ (sym (w .0)) room (w .1)
 
 returns-2 : tie.Need-returns-2
