@@ -2,10 +2,9 @@
 use Prim.Native.Nat.{ℕ}
 use mathlib.Core.Bool.{_||_, cond}
 use mathlib.Core.List.{List}
-use lib.IntN.{pos}
 use lib.ListN.{length}
 use lib.Dec.{eqb}
-use lib.Ieee.{Float, nan, binary32, binary64, add, mul, eq, ofBits, ofInt}
+use lib.Ieee.{Float, nan, binary32, binary64, add, mul, eq, ofBits}
 use Rattle.calibration.specs.Convert.{coefficient, series}
 use Rattle.calibration.specs.declared.Bins.{Bins}
 use Rattle.calibration.specs.declared.ChunkBins.{ChunkBins}

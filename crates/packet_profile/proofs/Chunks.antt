@@ -8,7 +8,7 @@ use mathlib.Core.List.{List}
 use lib.Dec.{leb}
 use borrow.Author.Tests.{le-leb, lt-leb, leb-true}
 use Rattle.lists.specs.Written.{each}
-use Rattle.lists.proofs.Laws.{each-same, length-each}
+use Rattle.lists.proofs.Laws.{each-same}
 use Rattle.parser.specs.Parser.{Parser, Parsed, short, parsed, done, bytes, littleEndian, left, within, parse, word, repeat, counted, _>>=_}
 use Rattle.parser.specs.Internal.{Sized, value}
 use Rattle.parser.proofs.Prefix.{within-parsed}

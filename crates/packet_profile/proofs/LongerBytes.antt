@@ -6,7 +6,7 @@ use mathlib.Core.Bool.{Bool, true, false}
 use mathlib.Core.List.{List, _++_}
 use lib.Dec.{lit≤}
 use Rattle.refusal.specs.Outcome.{ok}
-use Rattle.parser.specs.Parser.{parse, repeat, counted, _>>=_}
+use Rattle.parser.specs.Parser.{parse, repeat, counted}
 use Rattle.parser.specs.Call.{single}
 use Rattle.parser.specs.LongerBytes.{OnLongerBytes, PrefixProperty, Names, Completes}
 use Rattle.parser.proofs.Prefix.{prefix-parsed}
@@ -14,7 +14,7 @@ use Rattle.parser.proofs.Completion.{extent, bounded-more, ValueInvariant, inva
 use Rattle.parser.proofs.Calls.{prefix-property, only-part, single-completes}
 use Rattle.parser.proofs.OnLongerBytes.{one-part, plain-longer}
 use Rattle.parser.proofs.DemandBound.{DemandBound, Any, demand-sized, demand-known, demand-more, demand-done, demand-ahead, demand-repeat, demand-bind}
-use Rattle.packet_profile.specs.Profile.{isFudged, headSize, fudge, chunk, Axis, axis, profile, located, readProfile, outcomeOf}
+use Rattle.packet_profile.specs.Profile.{isFudged, headSize, chunk, Axis, axis, profile, located, readProfile, outcomeOf}
 use Rattle.packet_profile.specs.declared.Profile.{Profile}
 use Rattle.packet_profile.proofs.Chunks.{Head, head, values, chunks, whole, rest, staged, head-sized, values-sized}
 use Rattle.packet_profile.proofs.OneAnswer.{profile-answer-one}

@@ -6,7 +6,7 @@ use lib.Dec.{eqb}
 use lib.ListN.{length}
 use Rattle.refusal.specs.Outcome.{Outcome, ok}
 use Rattle.refusal.specs.Number.{outcomeOfRefusal}
-use Rattle.parser.specs.Parser.{Parser, Parsed, short, parsed, done, _>>=_, _>>_, word, counted, wordAt}
+use Rattle.parser.specs.Parser.{Parser, Parsed, short, parsed, done, _>>=_, word, counted, wordAt}
 use Rattle.parser.specs.Walk.{sum}
 use Rattle.parser.specs.Call.{outcome, single}
 use Rattle.packet_profile.specs.declared.Profile.{Profile}

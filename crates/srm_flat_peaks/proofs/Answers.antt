@@ -26,14 +26,13 @@ module _ (end cumEnd dataSize : ℕ) (s : List ℕ) where
   -- an attempt goes to its own place
   anywhere : (subtract p q : ℕ) → attemptAnswer (parse (attempt end cumEnd dataSize subtract) s p) ≡ attemptAnswer (parse (attempt end cumEnd dataSize subtract) s q)
   unfolding attempt parse
-  anywhere subtract p q = go (leb dataSize subtract) (ltb cumEnd ((dataSize - subtract) * 9)) (end - (dataSize - subtract) * 9) (dataSize - subtract)
+  anywhere subtract p q = go (leb dataSize subtract || ltb cumEnd ((dataSize - subtract) * 9)) (end - (dataSize - subtract) * 9) (dataSize - subtract)
     where
-      go : (a b : Bool) (start n : ℕ)
-          → attemptAnswer (parse (cond (a || b) (done passedOver) (seek start (peaksFrom start n))) s p)
-          ≡ attemptAnswer (parse (cond (a || b) (done passedOver) (seek start (peaksFrom start n))) s q)
-      go true b start n = refl
-      go false true start n = refl
-      go false false start n = refl
+      go : (b : Bool) (start n : ℕ)
+          → attemptAnswer (parse (cond b (done passedOver) (seek start (peaksFrom start n))) s p)
+          ≡ attemptAnswer (parse (cond b (done passedOver) (seek start (peaksFrom start n))) s q)
+      go true start n = refl
+      go false start n = refl
 
   -- the second, where the first was passed over
   abbrev orNext : AttemptAnswer → AttemptAnswer → AttemptAnswer
@@ -105,12 +104,11 @@ module _ (s : List ℕ) where
 
   attempt-stands : (end cumEnd dataSize subtract at : ℕ) → Stands s (parse (attempt end cumEnd dataSize subtract) s at)
   unfolding attempt parse
-  attempt-stands end cumEnd dataSize subtract at = go (leb dataSize subtract) (ltb cumEnd ((dataSize - subtract) * 9)) (end - (dataSize - subtract) * 9) (dataSize - subtract)
+  attempt-stands end cumEnd dataSize subtract at = go (leb dataSize subtract || ltb cumEnd ((dataSize - subtract) * 9)) (end - (dataSize - subtract) * 9) (dataSize - subtract)
     where
-      go : (a b : Bool) (start n : ℕ) → Stands s (parse (cond (a || b) (done passedOver) (seek start (peaksFrom start n))) s at)
-      go true b start n = tt
-      go false true start n = tt
-      go false false start n = from-stands start n
+      go : (b : Bool) (start n : ℕ) → Stands s (parse (cond b (done passedOver) (seek start (peaksFrom start n))) s at)
+      go true start n = tt
+      go false start n = from-stands start n
 
   attempts-stand : (end cumEnd dataSize at : ℕ) → Stands s (parse (attempts end cumEnd dataSize) s at)
   unfolding attempts parse

@@ -29,23 +29,21 @@ module _ (end cumEnd dataSize : ℕ) (near : end < 2 ^ 62) (size : dataSize < 2 
 
   attempt-bounded : (subtract : ℕ) → Bounded (2 ^ 62) (2 ^ 35) (attempt end cumEnd dataSize subtract)
   unfolding attempt
-  attempt-bounded subtract = go (leb dataSize subtract) (ltb cumEnd ((dataSize - subtract) * 9)) (end - (dataSize - subtract) * 9) (dataSize - subtract) (omega arith) (omega arith)
+  attempt-bounded subtract = go (leb dataSize subtract || ltb cumEnd ((dataSize - subtract) * 9)) (end - (dataSize - subtract) * 9) (dataSize - subtract) (omega arith) (omega arith)
     where
-      go : (a b : Bool) (start n : ℕ) → start ≤ 2 ^ 62 → n < 2 ^ 32
-          → Bounded (2 ^ 62) (2 ^ 35) (cond (a || b) (done passedOver) (seek start (peaksFrom start n)))
-      go true b start n p q = tt
-      go false true start n p q = tt
-      go false false start n p q = (p, from-bounded start n q)
+      go : (b : Bool) (start n : ℕ) → start ≤ 2 ^ 62 → n < 2 ^ 32
+          → Bounded (2 ^ 62) (2 ^ 35) (cond b (done passedOver) (seek start (peaksFrom start n)))
+      go true start n p q = tt
+      go false start n p q = (p, from-bounded start n q)
 
   -- the second attempt starts with a seek
   attempt-extent : (subtract : ℕ) → extent (attempt end cumEnd dataSize subtract) ≤ 0
   unfolding attempt
-  attempt-extent subtract = go (leb dataSize subtract) (ltb cumEnd ((dataSize - subtract) * 9)) (end - (dataSize - subtract) * 9) (dataSize - subtract)
+  attempt-extent subtract = go (leb dataSize subtract || ltb cumEnd ((dataSize - subtract) * 9)) (end - (dataSize - subtract) * 9) (dataSize - subtract)
     where
-      go : (a b : Bool) (start n : ℕ) → extent (cond (a || b) (done passedOver) (seek start (peaksFrom start n))) ≤ 0
-      go true b start n = lit≤ tt
-      go false true start n = lit≤ tt
-      go false false start n = lit≤ tt
+      go : (b : Bool) (start n : ℕ) → extent (cond b (done passedOver) (seek start (peaksFrom start n))) ≤ 0
+      go true start n = lit≤ tt
+      go false start n = lit≤ tt
 
   next-extent : (a : Attempt) → extent (orElse (attempt end cumEnd dataSize 2) a) ≤ 0
   next-extent (accepted place peaks) = lit≤ tt

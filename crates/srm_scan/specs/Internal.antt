@@ -5,7 +5,7 @@ use mathlib.Core.List.{List}
 use lib.Dec.{leb, eqb}
 use Rattle.refusal.specs.Outcome.{Outcome, ok, ranOut}
 use Rattle.lists.specs.Written.{each}
-use Rattle.parser.specs.Parser.{bytes, littleEndian, left, wordAt}
+use Rattle.parser.specs.Parser.{left, wordAt}
 
 -- how many channels the scan at a place has, where its table takes so many bytes for each
 unfoldable pub channels : ℕ → List ℕ → ℕ → Outcome ℕ

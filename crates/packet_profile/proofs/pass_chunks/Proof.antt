@@ -1,7 +1,7 @@
 -- `packet_profile::pass_chunks` meets its contract: a turn passes one chunk and counts its values (`WalkInvariant`). Four times the
 -- values are at most the place, so their number fits.
 use mathlib.Core.Path.{_≡_, sym, _∙_}
-use Prim.Native.Nat.{_+_, _*_, _-_, _≤_}
+use Prim.Native.Nat.{_*_, _-_, _≤_}
 use native.Mathlib.Omega.{arith}
 use denote.Ref.{now}
 use Rattle.parser.proofs.Walk.{WalkInvariant, walk-none, walk-more}

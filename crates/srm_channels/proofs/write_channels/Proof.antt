@@ -23,30 +23,17 @@ Inv-loop «data» events channel-events₀ q1₀ collision-energy₀ end written
 abbrev μ-loop : tie.MeasureT-loop
 μ-loop «data» events channel-events₀ q1₀ collision-energy₀ end written₀ i₀ channel-events q1 collision-energy written i = end - i
 
--- at a channel there is one more than were written
-more : (c : tie.Then1 Inv-loop μ-loop)
-    → let l = c .before .before .before in
-    let a = l .before .before .before .before .before .before .before .args in
-    l .loop .written < length (channelsIn (now (a .events)) (now (a .«data»)))
+-- at a channel there is one more than were written, so each slice has a place for it
+room : (c : tie.Then1 Inv-loop μ-loop)
+    → let l = c .before .before .before .loop in
+    (l .written < length (l .channel-events)) × (l .written < length (l .q1)) × (l .written < length (l .collision-energy))
 unfolding channelsIn
-more c =
+room c =
     let l = c .before .before .before in
-    count-room _ _ _ _ _ _ (sym (c .before .is-channel .ensures) ∙ c .if1 .taken) (l .loop .inv .0) (omega arith)
-
-in-events : (c : tie.Then1 Inv-loop μ-loop) → let l = c .before .before .before in l .loop .written < length (l .loop .channel-events)
-in-events c =
-    let l = c .before .before .before in
-    omega (arith, more c, l .before .before .before .before .before .before .before .pre .0, l .loop .inv .1 .same)
-
-in-q1 : (c : tie.Then1 Inv-loop μ-loop) → let l = c .before .before .before in l .loop .written < length (l .loop .q1)
-in-q1 c =
-    let l = c .before .before .before in
-    omega (arith, more c, l .before .before .before .before .before .before .before .pre .1 .0, l .loop .inv .2 .same)
-
-in-energies : (c : tie.Then1 Inv-loop μ-loop) → let l = c .before .before .before in l .loop .written < length (l .loop .collision-energy)
-in-energies c =
-    let l = c .before .before .before in
-    omega (arith, more c, l .before .before .before .before .before .before .before .pre .1 .1, l .loop .inv .3 .same)
+    let start = l .before .before .before .before .before .before .before in
+    let pre = start .pre in
+    let more : l .loop .written < length (channelsIn (now (start .args .events)) (now (start .args .«data»))) = count-room _ _ _ _ _ _ (sym (c .before .is-channel .ensures) ∙ c .if1 .taken) (l .loop .inv .0) (omega arith) in
+    (omega (arith, more, pre .0, l .loop .inv .1 .same), omega (arith, more, pre .1 .0, l .loop .inv .2 .same), omega (arith, more, pre .1 .1, l .loop .inv .3 .same))
 
 loop-holds : tie.Need-loop-holds Inv-loop μ-loop
 loop-holds c = (count-none _ _ _, write-none _ _ _ _ _, write-none _ _ _ _ _, write-none _ _ _ _ _, search needs)
@@ -61,19 +48,19 @@ channel-at-requires c κs =
     ((omega (arith, l .loop .inv .0 .started), omega arith), channel-event 65536 _ _ _ (λ k. omega (arith, known .shared-slice-known2 .given k)) (sym (c .before .is-channel .ensures) ∙ c .if1 .taken))
 
 slice-write-channel-events : tie.Need-slice-write-channel-events Inv-loop μ-loop
-slice-write-channel-events c = in-events (c .before)
+slice-write-channel-events c = room (c .before) .0
 
 mul-q1 : tie.Need-mul-q1 Inv-loop μ-loop
-mul-q1 c = let r = in-q1 (c .before) in search needs
+mul-q1 c = let r = room (c .before) .1 in search needs
 
 slice-write-q1 : tie.Need-slice-write-q1 Inv-loop μ-loop
-slice-write-q1 c = in-q1 (c .before)
+slice-write-q1 c = room (c .before) .1
 
 mul-collision-energy : tie.Need-mul-collision-energy Inv-loop μ-loop
-mul-collision-energy c = let r = in-energies (c .before) in search needs
+mul-collision-energy c = let r = room (c .before) .2 in search needs
 
 slice-write-collision-energy : tie.Need-slice-write-collision-energy Inv-loop μ-loop
-slice-write-collision-energy c = in-energies (c .before)
+slice-write-collision-energy c = room (c .before) .2
 
 add-written : tie.Need-add-written Inv-loop μ-loop
 add-written c = omega (arith, c .before .before .before .before .loop .inv .0 .within)
@@ -82,17 +69,16 @@ loop-again : tie.Need-loop-again Inv-loop μ-loop
 loop-again c =
     let a = c .before in
     let l = a .before .before in
-    let start = l .before .before .before .before .before .before .before in
     let inv = l .loop .inv in
     ⊎-elim
     (λ w.
     let t = sym (a .is-channel .ensures) ∙ w .0 .taken in
-    let room = more (record { before = a; if1 = w .0 }) in
+    let r = room (record { before = a; if1 = w .0 }) in
     let channel = w .1 .ensures in (
       rw (w .5) (count-in _ _ _ _ _ t (inv .0)),
-      rw (w .2) (write-in _ _ _ _ _ _ _ _ _ t (inv .0) (ap (λ k. k .event) channel) (omega (arith, room, start .pre .0)) (inv .1)),
-      rw (w .3) (write-in _ _ _ _ _ _ _ _ _ t (inv .0) (ap (λ k. k .q1) channel) (omega (arith, room, start .pre .1 .0)) (inv .2)),
-      rw (w .4) (write-in _ _ _ _ _ _ _ _ _ t (inv .0) (ap (λ k. k .«collision_energy») channel) (omega (arith, room, start .pre .1 .1)) (inv .3)),
+      rw (w .2) (write-in _ _ _ _ _ _ _ _ _ t (inv .0) (ap (λ k. k .event) channel) (omega (arith, r .0, inv .1 .same)) (inv .1)),
+      rw (w .3) (write-in _ _ _ _ _ _ _ _ _ t (inv .0) (ap (λ k. k .q1) channel) (omega (arith, r .1, inv .2 .same)) (inv .2)),
+      rw (w .4) (write-in _ _ _ _ _ _ _ _ _ t (inv .0) (ap (λ k. k .«collision_energy») channel) (omega (arith, r .2, inv .3 .same)) (inv .3)),
       omega (arith, inv .0 .started),
     ))
     (λ w.
