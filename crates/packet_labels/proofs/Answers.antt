@@ -107,8 +107,7 @@ module _ (h : PacketHeader) (n : ℕ) where
     labels-are =
         let ds : length descriptorsAt ≡ wordCount n 0 (h .«descriptor_list_size») = length-each _ (wordCount n 0 (h .«descriptor_list_size»)) in
         let rs : length resolutionsAt ≡ wordCount n 1 (h .«unknown_stream_size») = length-each _ (wordCount n 1 (h .«unknown_stream_size»)) in
-        let end : at + h .«descriptor_list_size» * 4 + h .«unknown_stream_size» * 4 + h .«triplet_stream_size» * 4 ≡ at + total h = omega arith in
-        rw (ds, rs, end)
+        rw (ds, rs)
 
     pub labels-whole : total h ≤ left s at → ok (labelsAt, streamsAt s labelsAt) ≡ readLabels h n at s
     unfolding readLabels outcome

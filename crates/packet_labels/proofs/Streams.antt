@@ -14,8 +14,8 @@ use Rattle.lists.proofs.Laws.{each-none, each-same}
 use Rattle.parser.specs.Parser.{Parser, done, bytes, word, skip, counted, wordAt, _>>=_, _>>_}
 use Rattle.parser.specs.Internal.{Sized, value}
 use Rattle.parser.proofs.Fixed.{sized-raw, sized-word, sized-bind, sized-cond, sized-counted, value-each}
-use Rattle.packet_labels.specs.Labels.{oneEach, wordsEach, triplets}
-use Rattle.packet_labels.specs.Internal.{wordCount}
+use Rattle.packet_labels.specs.Labels.{wordsEach, triplets}
+use Rattle.packet_labels.specs.Internal.{oneEach, wordCount}
 
 -- what follows words that are skipped
 abbrev none : Unit {0} → Parser (List ℕ)

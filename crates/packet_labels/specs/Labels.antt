@@ -1,6 +1,6 @@
 -- The label streams after a packet's peak list (`read_labels` of scan_data.rs). Sizes count words of four bytes.
 use Prim.Native.Nat.{ℕ, _+_, _*_, _-_, _/_}
-use mathlib.Core.Bool.{Bool, _&&_, cond}
+use mathlib.Core.Bool.{_&&_, cond}
 use mathlib.Core.List.{List, []}
 use lib.Dec.{leb, eqb}
 use lib.ListN.{length}
@@ -14,13 +14,9 @@ use Rattle.packet_labels.specs.declared.Labels.{Labels}
 use Rattle.packet_labels.specs.declared.LabelsAnswer.{LabelsAnswer}
 use Rattle.packet_labels.specs.declared.LabelsAnswer.the-variants as answer
 
--- a stream of so many words has one for each of n peaks, after so many others
-abbrev pub oneEach : ℕ → ℕ → ℕ → Bool
-oneEach n others size = leb 1 n && eqb size (others + n)
-
--- the words for the peaks, or none of a stream that has not one for each: it is skipped
+-- a stream of so many words, after the others one for each of n peaks, if there are any. A stream of another size is skipped
 unfoldable pub wordsEach : ℕ → ℕ → ℕ → Parser (List ℕ)
-wordsEach n others size = cond (oneEach n others size) (skip (others * 4) >> counted n 4 (word 4)) (skip (size * 4) >> done [])
+wordsEach n others size = cond (leb 1 n && eqb size (others + n)) (skip (others * 4) >> counted n 4 (word 4)) (skip (size * 4) >> done [])
 
 -- the bytes of as many noise nodes as the stream has triples of words, and the words that are left over
 unfoldable pub triplets : ℕ → Parser (List ℕ)
@@ -45,16 +41,14 @@ labels h n = do
 -- where they stand, one after the other, from `at` on
 unfoldable pub labelPlaces : PacketHeader → ℕ → Streams → Labels
 labelPlaces h at l =
-    let unknown = at + h .«descriptor_list_size» * 4 in
-    let nodes = unknown + h .«unknown_stream_size» * 4 in
     record {
       descriptors = length (l .descriptors);
       «descriptors_at» = at;
       resolutions = length (l .resolutions);
-      «unknown_at» = unknown;
+      «unknown_at» = at + h .«descriptor_list_size» * 4;
       «noise_nodes» = h .«triplet_stream_size» / 3;
-      «nodes_at» = nodes;
-      next = nodes + h .«triplet_stream_size» * 4;
+      «nodes_at» = at + h .«descriptor_list_size» * 4 + h .«unknown_stream_size» * 4;
+      next = at + (h .«descriptor_list_size» + h .«unknown_stream_size» + h .«triplet_stream_size») * 4;
     }
 
 -- what stands at such places

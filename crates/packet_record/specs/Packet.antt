@@ -38,9 +38,7 @@ pub record Packet : Type 0 where
 
 -- the label streams follow the peaks, and end the packet
 unfoldable pub afterPeaks : PacketHeader → OptionalProfile → List Peak → Parser Packet
-afterPeaks h profile peaks = do
-  l ← labels h (length peaks)
-  done (record { header = h; profile = profile; contents = record { peaks = peaks; labels = l } })
+afterPeaks h profile peaks = labels h (length peaks) >>= λ l. done (record { header = h; profile = profile; contents = record { peaks = peaks; labels = l } })
 
 -- where the profile of the packet at `at` stands: after the header, of 40 bytes
 abbrev pub profilePlace : ℕ → ℕ → OptionalProfile → PacketProfile
@@ -55,13 +53,11 @@ placesFrom profile at p =
 
 -- what stands at such places
 abbrev pub contentsAt : List ℕ → Places → Contents
-contentsAt s v =
-    record { peaks = peaksAt (v .list .wide) (itemSize (v .list .wide)) s (v .list .at) (v .list .count); labels = streamsAt s (v .labels) }
+contentsAt s v = record { peaks = peaksAt (v .list .wide) (itemSize (v .list .wide)) s (v .list .at) (v .list .count); labels = streamsAt s (v .labels) }
 
 -- what `with_labels` answers, with the streams that stand there
 unfoldable pub withLabels : PacketHeader → PacketProfile → PeakList → List ℕ → Outcome (Places × Streams)
-withLabels h profile list run =
-    onOk (λ l. (record { header = h; profile = profile; list = list; labels = l .0 }, l .1)) (readLabels h (list .count) (list .next) run)
+withLabels h profile list run = onOk (λ l. (record { header = h; profile = profile; list = list; labels = l .0 }, l .1)) (readLabels h (list .count) (list .next) run)
 
 abbrev pub outcomeOfPlaces : PlacesAnswer → Outcome Places
 outcomeOfPlaces (places.Places p) = ok p

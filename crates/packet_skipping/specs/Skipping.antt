@@ -10,9 +10,7 @@ use Rattle.packet_record.specs.declared.PacketProfile.the-variants.{Absent}
 use Rattle.packet_record.specs.declared.ScanDataPacket.{ScanDataPacket}
 
 unfoldable pub packetSkipping : Parser Packet
-packetSkipping = do
-  p ← skipping
-  afterPeaks (p .0) absent (p .1)
+packetSkipping = skipping >>= λ p. afterPeaks (p .0) absent (p .1)
 
 -- what `read_skip_profile` answers for the packet at `at`, where slices of these capacities are lent
 unfoldable pub readSkipProfile : List ℕ → ℕ → List ℕ → Outcome ((ScanDataPacket × List ℕ) × List (List ℕ))

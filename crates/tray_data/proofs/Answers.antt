@@ -15,11 +15,10 @@ use Rattle.scan_format.specs.declared.ScanDataFormat.the-variants.{PacketHeader
 use Rattle.packet_peak_list.specs.PeakList.{itemSize}
 use Rattle.packet_profile.specs.Profile.{isFudged, Axis, Chunk, points, located}
 use Rattle.packet_profile.proofs.Answers.{profile-chunks}
-use Rattle.packet_record.specs.Packet.{Stored, absent, present, describeProfile}
-use Rattle.packet_record.specs.Places.{peaksOf}
+use Rattle.packet_record.specs.Packet.{OptionalProfile, absent, present, Contents, contentsAt, profilePlace}
 use Rattle.packet_record.specs.declared.Places.{Places}
 use Rattle.packet_header.specs.declared.PacketHeader as head
-use Rattle.packet_places.specs.Packet.{stored, packet}
+use Rattle.packet_places.specs.Packet.{optionalProfile, packet}
 use Rattle.packet_places.specs.Places.{findPlaces}
 use Rattle.packet_places.proofs.Stages.{present-parsed}
 use Rattle.packet_places.proofs.Answers.{packet-short, Standing, standing}
@@ -36,28 +35,28 @@ use Rattle.tray_data.specs.declared.ScanData.{ScanData}
 
 -- ---- a packet
 module _ (s : List ℕ) (at : ℕ) (h : head.PacketHeader) where
-  chunks-are : (p : Axis × List Chunk) (next : ℕ) → parse (stored h) s (at + 40) ≡ parsed (present p) next → chunksOf (located (h .layout) (at + 40) p) s ≡ p .1
+  chunks-are : (p : Axis × List Chunk) (next : ℕ) → parse (optionalProfile h) s (at + 40) ≡ parsed (present p) next → chunksOf (located (h .layout) (at + 40) p) s ≡ p .1
   unfolding located
   chunks-are p next e =
       chunks-parsed (isFudged (h .layout)) s (p .0 .peakCount) (at + 40 + 24) (profile-chunks (h .layout) s (at + 40) (present-parsed h s (at + 40) p next e))
 
-  content-is : (p : Stored) (next : ℕ) → parse (stored h) s (at + 40) ≡ parsed p next → (v : Places)
-      → contentAt (packetData (describeProfile (h .layout) at p) v) s ≡ contentOf p (peaksOf v s)
+  content-is : (p : OptionalProfile) (next : ℕ) → parse (optionalProfile h) s (at + 40) ≡ parsed p next → (v : Places)
+      → contentAt (packetData (profilePlace (h .layout) at p) v) s ≡ contentOf p (contentsAt s v .peaks)
   unfolding located
   content-is absent next e v = refl
   content-is (present p) next e v = ap (profile (record { «first_value» = p .0 .firstValue; step = p .0 .step })) (chunks-are p next e)
 
-  count-is : (p : Stored) (next : ℕ) → parse (stored h) s (at + 40) ≡ parsed p next → (v : Places) (coefficients : List ℕ)
-      → length (pairs coefficients (contentAt (packetData (describeProfile (h .layout) at p) v) s)) ≡ countOf (packetData (describeProfile (h .layout) at p) v)
+  count-is : (p : OptionalProfile) (next : ℕ) → parse (optionalProfile h) s (at + 40) ≡ parsed p next → (v : Places) (coefficients : List ℕ)
+      → length (pairs coefficients (contentAt (packetData (profilePlace (h .layout) at p) v) s)) ≡ countOf (packetData (profilePlace (h .layout) at p) v)
   unfolding pairs located
   count-is absent next e v coefficients = length-peak-pairs (v .list .wide) (itemSize (v .list .wide)) s (v .list .at) (v .list .count)
   count-is (present p) next e v coefficients = length-pairs _ coefficients _ ∙ ap (sum points) (chunks-are p next e)
 
-packet-content : (s : List ℕ) (at : ℕ) {v : Places} (t : Standing s at v) → contentAt (packetData (v .profile) v) s ≡ contentOf (t .stands .packet .profile) (t .stands .packet .peaks)
+packet-content : (s : List ℕ) (at : ℕ) {v : Places} (t : Standing s at v) → contentAt (packetData (v .profile) v) s ≡ contentOf (t .stands .packet .profile) (t .stands .packet .contents .peaks)
 packet-content s at {v} t =
     ap (λ p. contentAt (packetData p v) s) (t .is)
-    ∙ content-is s at (t .header) (t .profile) (t .next) (t .kept) v
-    ∙ rw (t .stands .profile-is, ← t .stands .peaks)
+    ∙ content-is s at (t .header) (t .profile) (t .next) (t .profile-there) v
+    ∙ rw (t .stands .profile-is, ← t .stands .contents)
 
 -- ---- any data
 module _ (place offset size : ℕ) (s : List ℕ) where
@@ -66,11 +65,11 @@ module _ (place offset size : ℕ) (s : List ℕ) where
       → length (pairs coefficients (contentAt d s)) ≡ countOf d
   unfolding findData pairs
   data-count PacketHeader e coefficients =
-      let m = made-of (λ (v : Places). packetData (v .profile) v) (findPlaces (dataStart place offset) s) e in
-      let v = m .value in
+      let m = made-of (λ (v : Places × Contents). packetData (v .0 .profile) (v .0)) (findPlaces (dataStart place offset) s) e in
+      let v = m .value .0 in
       let t = standing s (dataStart place offset) (m .is) in
       let same = m .made ∙ ap (λ p. packetData p v) (t .is) in
-      rw same (count-is s (dataStart place offset) (t .header) (t .profile) (t .next) (t .kept) v coefficients)
+      rw same (count-is s (dataStart place offset) (t .header) (t .profile) (t .next) (t .profile-there) v coefficients)
   data-count FlatV63 e coefficients =
       let m = made-of (narrowPeaks 8) (findFlatPeaks place offset size s) e in
       rw (m .made) (length-peak-pairs false 8 s (m .value .0) (m .value .1))
@@ -88,11 +87,11 @@ module _ {A : Type 0} (follow : Content → Outcome A) (place offset size : ℕ)
       → follow (contentAt d s) ≡ outcome (single 4 (dataStart place offset) (scanData format (dataStart place offset) offset size) (λ f _. ofFinding follow f)) s
   unfolding findData scanData outcome
   data-found PacketHeader e =
-      let m = made-of (λ (v : Places). packetData (v .profile) v) (findPlaces (dataStart place offset) s) e in
+      let m = made-of (λ (v : Places × Contents). packetData (v .0 .profile) (v .0)) (findPlaces (dataStart place offset) s) e in
       let t = standing s (dataStart place offset) (m .is) in
       ap (λ d. follow (contentAt d s)) (m .made)
       ∙ ap follow (packet-content s (dataStart place offset) t)
-      ∙ sym (made-part 4 (dataStart place offset) packet (λ p. given (contentOf (p .profile) (p .peaks))) (λ f _. ofFinding follow f) (λ p _. follow (contentOf (p .profile) (p .peaks))) (λ _ _. refl) s
+      ∙ sym (made-part 4 (dataStart place offset) packet (λ p. given (contentOf (p .profile) (p .contents .peaks))) (λ f _. ofFinding follow f) (λ p _. follow (contentOf (p .profile) (p .contents .peaks))) (λ _ _. refl) s
       ∙ rw (t .stands .there))
   data-found FlatV63 e =
       let m = made-of (narrowPeaks 8) (findFlatPeaks place offset size s) e in
@@ -109,8 +108,8 @@ module _ {A : Type 0} (follow : Content → Outcome A) (place offset size : ℕ)
       → refused n carries ≡ outcome (single 4 (dataStart place offset) (scanData format (dataStart place offset) offset size) (λ f _. ofFinding follow f)) s
   unfolding findData scanData outcome
   data-refused PacketHeader e =
-      let r = packet-short s (dataStart place offset) (refused-of (λ (v : Places). packetData (v .profile) v) (findPlaces (dataStart place offset) s) e) in
-      sym (made-part 4 (dataStart place offset) packet (λ p. given (contentOf (p .profile) (p .peaks))) (λ f _. ofFinding follow f) (λ p _. follow (contentOf (p .profile) (p .peaks))) (λ _ _. refl) s
+      let r = packet-short s (dataStart place offset) (refused-of (λ (v : Places × Contents). packetData (v .0 .profile) (v .0)) (findPlaces (dataStart place offset) s) e) in
+      sym (made-part 4 (dataStart place offset) packet (λ p. given (contentOf (p .profile) (p .contents .peaks))) (λ f _. ofFinding follow f) (λ p _. follow (contentOf (p .profile) (p .contents .peaks))) (λ _ _. refl) s
       ∙ rw (r .there, r .one, r .part))
   data-refused FlatV63 e =
       flat.then-refused (λ ps. follow (centroids ps)) place offset size s (refused-of (narrowPeaks 8) (findFlatPeaks place offset size s) e)

@@ -10,7 +10,7 @@ use Rattle.scan_format.specs.declared.ScanDataFormat.the-variants.{PacketHeader
 use Rattle.peaks.specs.Peaks.{Peak, peaksAt}
 use Rattle.packet_peak_list.specs.PeakList.{itemSize}
 use Rattle.packet_profile.specs.Profile.{Chunk}
-use Rattle.packet_record.specs.Packet.{Stored, absent, present}
+use Rattle.packet_record.specs.Packet.{OptionalProfile, absent, present}
 use Rattle.packet_record.specs.declared.PacketProfile.{PacketProfile}
 use Rattle.packet_record.specs.declared.PacketProfile.the-variants.{Absent, Present}
 use Rattle.packet_record.specs.declared.Places.{Places}
@@ -31,7 +31,7 @@ pub data Content : Type 0 where
   centroids : List Peak → Content
 
 -- the profile of a packet that has one, else its peaks
-abbrev pub contentOf : Stored → List Peak → Content
+abbrev pub contentOf : OptionalProfile → List Peak → Content
 contentOf absent ps = centroids ps
 contentOf (present p) ps = profile (record { «first_value» = p .0 .firstValue; step = p .0 .step }) (p .1)
 
@@ -55,7 +55,7 @@ dataStart place offset = saturatingAdd place offset
 
 -- the data that stand at `at`
 unfoldable pub scanData : ScanDataFormat → ℕ → ℕ → ℕ → Parser Finding
-scanData PacketHeader at offset size = packet >>= λ p. done (given (contentOf (p .profile) (p .peaks)))
+scanData PacketHeader at offset size = packet >>= λ p. done (given (contentOf (p .profile) (p .contents .peaks)))
 scanData FlatV63 at offset size = flatPeaks at offset size >>= λ a. done (ofAttempt a)
 scanData FlatV66 at offset size = scan peaks >>= λ ps. done (given (centroids ps))
 
@@ -73,7 +73,7 @@ abbrev pub narrowPeaks : ℕ → ℕ × ℕ → ScanData
 narrowPeaks stride p = Peaks (record { at = p .0; stride = stride; count = p .1; wide = false })
 
 unfoldable pub findData : ScanDataFormat → ℕ → ℕ → ℕ → List ℕ → Outcome ScanData
-findData PacketHeader place offset size run = onOk (λ v. packetData (v .profile) v) (findPlaces (dataStart place offset) run)
+findData PacketHeader place offset size run = onOk (λ v. packetData (v .0 .profile) (v .0)) (findPlaces (dataStart place offset) run)
 findData FlatV63 place offset size run = onOk (narrowPeaks 8) (findFlatPeaks place offset size run)
 findData FlatV66 place offset size run = onOk (narrowPeaks 12) (findPeaks place offset run)
 

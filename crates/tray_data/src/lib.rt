@@ -73,7 +73,7 @@ fn narrow_peaks(found: PeaksPlace, stride: u64) -> DataAnswer
 }
 
 fn find_packet(run: &[u8], at: u64) -> DataAnswer
-    ensures { λ r. ⌜ outcomeOf r ≡ onOk (λ v. packetData (v .profile) v) (findPlaces at (now (run .entry))) ⌝ }
+    ensures { λ r. ⌜ outcomeOf r ≡ onOk (λ v. packetData (v .0 .profile) (v .0)) (findPlaces at (now (run .entry))) ⌝ }
 {
     match find_places(run, at) {
         PlacesAnswer::Refused(r) => DataAnswer::Refused(r),

@@ -1,7 +1,8 @@
 -- `tray_data::find_packet` meets its contract: the packet's places decide.
 use mathlib.Core.Path.{sym, ap, _∙_}
+use denote.Ref.{now}
 use Rattle.refusal.specs.Outcome.{ok, onOk}
-use Rattle.packet_record.specs.Places.{outcomeOfPlaces}
+use Rattle.packet_record.specs.Packet.{Contents, contentsAt, outcomeOfPlaces}
 use Rattle.packet_record.specs.declared.Places.{Places}
 use Rattle.tray_data.specs.Data.{packetData}
 use borrow.Author.Needs.{needs}
@@ -9,11 +10,17 @@ use Rattle.tray_data.proofs.find_packet.Statement.{statement}
 use Rattle.tray_data.proofs.find_packet.Tie as tie
 
 returns : tie.Need-returns
-returns c = ap (onOk (λ (v : Places). packetData (v .profile) v)) (sym (ap outcomeOfPlaces (c .before .r .given .1)) ∙ c .before .before .before .find-places .ensures .0)
+returns c =
+    let s = now (c .before .before .before .before .before .args .run) in
+    ap (onOk (λ (v : Places × Contents). packetData (v .0 .profile) (v .0)))
+    (sym (ap (λ r. onOk (λ p. (p, contentsAt s p)) (outcomeOfPlaces r)) (c .before .r .given .1)) ∙ c .before .before .before .find-places .ensures)
 
 returns-2 : tie.Need-returns-2
 returns-2 c =
-    ap ok (c .packet-data .ensures) ∙ ap (onOk (λ (v : Places). packetData (v .profile) v)) (sym (ap outcomeOfPlaces (c .before .before .places .given .1)) ∙ c .before .before .before .before .find-places .ensures .0)
+    let s = now (c .before .before .before .before .before .before .args .run) in
+    ap ok (c .packet-data .ensures)
+    ∙ ap (onOk (λ (v : Places × Contents). packetData (v .0 .profile) (v .0)))
+    (sym (ap (λ r. onOk (λ p. (p, contentsAt s p)) (outcomeOfPlaces r)) (c .before .before .places .given .1)) ∙ c .before .before .before .before .find-places .ensures)
 
 pub find-packet-spec : {M : Type 1} → statement M
 find-packet-spec = tie.close (tie.spec (search needs) (search needs) (search needs) (search needs) returns returns-2)
