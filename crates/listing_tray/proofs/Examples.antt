@@ -13,8 +13,8 @@ use Rattle.event_preamble.specs.Size.{sizeForVersion}
 use Rattle.scan_format.specs.Format.{formatOf}
 use Rattle.scan_index.specs.Entry.{layout}
 use Rattle.event_record.specs.Event.{describe}
-use Rattle.event_before_66.specs.Layout.{head, reaction, middle, tail, before66}
-use Rattle.events.specs.Event.{event}
+use Rattle.event_before_66.specs.Layout.{reaction, before66}
+use Rattle.events.specs.Event.{layout as eventLayout, event}
 use Rattle.srm_flat_peaks.specs.Flat.{peaksFrom, attempt, attempts, flatPeaks}
 use Rattle.peaks.specs.Peaks.{peak}
 use Rattle.pairs.specs.Pairs.{peakPairs}
@@ -43,5 +43,5 @@ run =
 
 pub worked-case : listing (words ++ run)
     ≡ ascii "T 8 1" ++ 10 ∷ (ascii "S 0 1 0" ++ 10 ∷ (ascii "5000313 4000000000000000" ++ 10 ∷ []))
-unfolding ofBits toBits ofInt round eq lt le each over parse repeat outcome sizeForVersion formatOf layout describe head reaction middle tail before66 event counted peaksFrom attempt attempts flatPeaks peak peakPairs scaled tenThousandths largestMass digit decimalBy decimal hexadecimal trayLine scanLines header judged readHeader scanData pairs entryIn withData scanParts listsAndPairsIfFit scanIfFits headerWith readScan scansText listing
+unfolding ofBits toBits ofInt round eq lt le each over parse repeat outcome sizeForVersion formatOf layout describe reaction before66 eventLayout event counted peaksFrom attempt attempts flatPeaks peak peakPairs scaled tenThousandths largestMass digit decimalBy decimal hexadecimal trayLine scanLines header judged readHeader scanData pairs entryIn withData scanParts listsAndPairsIfFit scanIfFits headerWith readScan scansText listing
 worked-case = refl

@@ -7,7 +7,7 @@ use mathlib.Core.Bool.{true, false}
 use mathlib.Core.List.{List}
 use lib.Dec.{leb}
 use borrow.Author.Tests.{leb-false, lt-leb}
-use Rattle.refusal.specs.Outcome.{Outcome, ok, refused, ranOut, andThen}
+use Rattle.refusal.specs.Outcome.{Outcome, ok, refused, onOk, andThen}
 use Rattle.lists.proofs.Cases.{leb-cases}
 use Rattle.parser.specs.Parser.{Parser, Parsed, short, parsed, parse, left}
 use Rattle.parser.specs.Call.{onward, outcome, partAt}
@@ -16,16 +16,17 @@ use Rattle.scan_index.specs.Entry.{entry, entrySize, readEntry}
 use Rattle.scan_index.specs.declared.ScanIndexEntry.{ScanIndexEntry}
 use Rattle.scan_index.proofs.Size.{entry-least, entry-sized}
 use Rattle.event_record.specs.Event.{Event}
-use Rattle.event_record.specs.Places.{outcomeOfPlaces}
+use Rattle.event_record.specs.Places.{findBy, outcomeOfPlaces}
 use Rattle.event_record.specs.declared.PlacesAnswer.{PlacesAnswer}
 use Rattle.event_record.specs.declared.PlacesAnswer.the-variants as place
-use Rattle.events.specs.Event.{eventEnd}
+use Rattle.events.specs.Event.{layout, eventEnd}
+use Rattle.events.proofs.Ends.{found-event}
 use Rattle.tray_header.specs.declared.TrayHeader.{TrayHeader}
 use Rattle.tray_data.specs.Data.{findData, contentAt}
 use Rattle.tray_data.specs.declared.ScanData.{ScanData}
 use Rattle.tray_data.proofs.Answers.{data-found, data-refused}
 use Rattle.tray_scan.specs.Scan.{formatIn, entryIn, eventIn, ScanParts, withData, scanParts, scanIfFits, scanAt, endIn, placeOrEnd}
-use Rattle.tray_scan.specs.Internal.{entryOf, inTurn, nextPlace}
+use Rattle.tray_scan.specs.Internal.{entryOf, inTurn, eventFound, nextPlace}
 
 module _ (h : TrayHeader) (k : ℕ) (s : List ℕ) where
   -- an entry that is there has those before it in front of it
@@ -86,8 +87,14 @@ module _ (h : TrayHeader) (k : ℕ) (s : List ℕ) where
             rw (← i, ← j)
             (data-found (λ content. ok (record { entry = entry; event = e; next = next; content = content })) (h .«data») (entry .offset) (entry .«data_size») s (formatIn h) f)
 
--- ---- the place after an event
+-- ---- an event that `find_event` answered
 module _ (h : TrayHeader) (at : ℕ) (s : List ℕ) where
+  abbrev pub Finds : PlacesAnswer → Type 0
+  Finds x = outcomeOfPlaces x ≡ findBy (layout (h .version) (h .primary) (h .dependent)) at s
+
+  is-event : (x : PlacesAnswer) → Finds x → eventFound s x ≡ partAt 3 at (eventIn h) s
+  is-event x e = ap (onOk _) e ∙ found-event (h .version) (h .primary) (h .dependent) at s
+
   pub end-is : endIn h at s ≡ andThen (partAt 3 at (eventIn h) s) (λ v. ok (v .1))
   unfolding eventEnd outcome partAt
   end-is = go (parse (eventIn h) s at)
@@ -96,22 +103,22 @@ module _ (h : TrayHeader) (at : ℕ) (s : List ℕ) where
       go short = refl
       go (parsed e next) = refl
 
-  pub next-is : (x : PlacesAnswer) → outcomeOfPlaces s x ≡ partAt 3 at (eventIn h) s → nextPlace x ≡ placeOrEnd (endIn h at s)
-  next-is x e = go x (sym (end-is ∙ ap (λ o. andThen o (λ v. ok (v .1))) (sym e)))
+  pub next-is : (x : PlacesAnswer) → Finds x → nextPlace x ≡ placeOrEnd (endIn h at s)
+  next-is x e = go x (sym (end-is ∙ ap (λ o. andThen o (λ v. ok (v .1))) (sym (is-event x e))))
     where
-      go : (x : PlacesAnswer) → andThen (outcomeOfPlaces s x) (λ v. ok (v .1)) ≡ endIn h at s → nextPlace x ≡ placeOrEnd (endIn h at s)
+      go : (x : PlacesAnswer) → andThen (eventFound s x) (λ v. ok (v .1)) ≡ endIn h at s → nextPlace x ≡ placeOrEnd (endIn h at s)
       go (place.At p) i = ap placeOrEnd i
       go (place.Refused r) i = ap placeOrEnd i
 
 -- ---- the scan, where the event was sought first
-module _ (h : TrayHeader) (k at : ℕ) (s : List ℕ) (x : PlacesAnswer) (e : outcomeOfPlaces s x ≡ partAt 3 at (eventIn h) s) where
-  whole : inTurn h k (outcomeOfPlaces s x) s ≡ outcome (scanParts h k at (eventIn h)) s
-  whole = ap (λ o. inTurn h k o s) e ∙ in-turn h k s at (eventIn h)
+module _ (h : TrayHeader) (k at : ℕ) (s : List ℕ) (x : PlacesAnswer) (e : Finds h at s x) where
+  whole : inTurn h k (eventFound s x) s ≡ outcome (scanParts h k at (eventIn h)) s
+  whole = ap (λ o. inTurn h k o s) (is-event h at s x e) ∙ in-turn h k s at (eventIn h)
 
-  pub not-found : {n : ℕ} {carries : List ℕ} → refused n carries ≡ inTurn h k (outcomeOfPlaces s x) s → (capacities : List ℕ) → refused n carries ≡ scanAt capacities h k at s
+  pub not-found : {n : ℕ} {carries : List ℕ} → refused n carries ≡ inTurn h k (eventFound s x) s → (capacities : List ℕ) → refused n carries ≡ scanAt capacities h k at s
   unfolding scanAt
   not-found i capacities = rw (← (i ∙ whole))
 
-  pub was-found : {p : ScanParts} → ok p ≡ inTurn h k (outcomeOfPlaces s x) s → (capacities : List ℕ) → scanIfFits capacities p ≡ scanAt capacities h k at s
+  pub was-found : {p : ScanParts} → ok p ≡ inTurn h k (eventFound s x) s → (capacities : List ℕ) → scanIfFits capacities p ≡ scanAt capacities h k at s
   unfolding scanAt
   was-found i capacities = rw (← (i ∙ whole))

@@ -3,13 +3,14 @@ use mathlib.Core.Path.{_≡_}
 use Prim.Native.Nat.{ℕ, _+_, _*_, _-_, _^_}
 use mathlib.Core.List.{List}
 use lib.ListN.{length}
-use Rattle.refusal.specs.Outcome.{Outcome, ok, andThen}
+use Rattle.refusal.specs.Outcome.{Outcome, ok, onOk, andThen}
 use Rattle.refusal.specs.Number.{outcomeOfRefusal}
 use Rattle.parser.specs.Call.{outcome}
 use Rattle.scan_index.specs.Entry.{entrySize, readEntry}
 use Rattle.scan_index.specs.declared.ScanIndexEntry.{ScanIndexEntry}
 use Rattle.event_record.specs.Event.{Event}
-use Rattle.event_record.specs.Places.{eventAt}
+use Rattle.event_record.specs.Places.{eventAt, outcomeOfPlaces}
+use Rattle.event_record.specs.declared.Places.{Places}
 use Rattle.event_record.specs.declared.PlacesAnswer.{PlacesAnswer}
 use Rattle.event_record.specs.declared.PlacesAnswer.the-variants as place
 use Rattle.tray_header.specs.declared.TrayHeader.{TrayHeader}
@@ -44,7 +45,10 @@ abbrev pub CountedIn : List ℕ → ScanPlacesAnswer → Type 0
 CountedIn run (scan.At p) = Counted run (p .«data»)
 CountedIn run (scan.Refused r) = Unit {0}
 
--- the place after an event that was sought
+-- an event that was sought, and the place after it
+abbrev pub eventFound : List ℕ → PlacesAnswer → Outcome (Event × ℕ)
+eventFound run x = onOk (λ (p : Places). (eventAt run p, p .next)) (outcomeOfPlaces x)
+
 abbrev pub nextPlace : PlacesAnswer → ℕ
 nextPlace (place.At p) = p .next
 nextPlace (place.Refused r) = 2 ^ 64 - 1

@@ -3,11 +3,10 @@
 ghost use mathlib.Core.Path.{_≡_};
 ghost use mathlib.Core.List.{[], _∷_};
 ghost use Rattle.lists.specs.Left.{LeftListsAndPairs};
-ghost use Rattle.event_record.specs.Places.{outcomeOfPlaces};
 ghost use Rattle.scan_index.specs.Entry.{outcomeOf as outcomeOfEntry};
 ghost use Rattle.tray_data.specs.Data.{findData, outcomeOf as outcomeOfData};
 ghost use Rattle.tray_scan.specs.Scan.{formatIn, scanIfFits, scanAt, endIn, placeOrEnd, outcomeOf};
-ghost use Rattle.tray_scan.specs.Internal.{entryOf, inTurn, partsAt, outcomeOfScanPlaces, Counted, CountedIn, nextPlace};
+ghost use Rattle.tray_scan.specs.Internal.{entryOf, inTurn, partsAt, outcomeOfScanPlaces, Counted, CountedIn, eventFound, nextPlace};
 use event_record::EventAnswer;
 use event_record::Places;
 use event_record::PlacesAnswer;
@@ -74,7 +73,7 @@ fn data_of(run: &[u8], h: TrayHeader, entry: ScanIndexEntry) -> DataAnswer
 
 // Entry k and its data, with the event that was sought.
 fn find_scan(run: &[u8], h: TrayHeader, k: u32, event: PlacesAnswer) -> ScanPlacesAnswer
-    ensures { λ r. ⌜ outcomeOfScanPlaces (now (run .entry)) r ≡ inTurn h k (outcomeOfPlaces (now (run .entry)) event) (now (run .entry)) ⌝ }
+    ensures { λ r. ⌜ outcomeOfScanPlaces (now (run .entry)) r ≡ inTurn h k (eventFound (now (run .entry)) event) (now (run .entry)) ⌝ }
     ensures { λ r. ⌜ CountedIn (now (run .entry)) r ⌝ }
 {
     match entry_of(run, h, k) {
