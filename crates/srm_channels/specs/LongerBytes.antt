@@ -9,15 +9,15 @@ use Rattle.refusal.specs.declared.Refusal.the-variants.{NoRoom}
 use Rattle.refusal.specs.declared.CountAnswer.{CountAnswer}
 use Rattle.refusal.specs.declared.CountAnswer.the-variants.{Count, Refused}
 use Rattle.lists.specs.Left.{fits, overAll, lengths}
-use Rattle.srm_channels.specs.Channels.{columns}
+use Rattle.srm_channels.specs.Channels.{channelLists}
 use Rattle.srm_channels.specs.declared.Channel.{Channel}
 
 -- xs is lent. The list fits, and stands over the fronts; or it does not, and nothing is altered
 abbrev pub ListAnswered : List (List ℕ) → List Channel → CountAnswer → List (List ℕ) → Type 0
-ListAnswered xs list r ys = (fits (lengths (columns list)) (lengths xs) ≡ true) × (r ≡ Count (length list)) × (ys ≡ overAll (columns list) xs)
+ListAnswered xs list r ys = (fits (lengths (channelLists list)) (lengths xs) ≡ true) × (r ≡ Count (length list)) × (ys ≡ overAll (channelLists list) xs)
 
 abbrev pub ListRefused : List (List ℕ) → List Channel → CountAnswer → List (List ℕ) → Type 0
-ListRefused xs list r ys = (fits (lengths (columns list)) (lengths xs) ≡ false) × (r ≡ Refused NoRoom) × (ys ≡ xs)
+ListRefused xs list r ys = (fits (lengths (channelLists list)) (lengths xs) ≡ false) × (r ≡ Refused NoRoom) × (ys ≡ xs)
 
 -- `list s` is the channel list of the bytes s, and `meets s r ys` says that on them the answer is r and the slices hold ys: on
 -- longer bytes channels are added at the list's end; a list is answered or refused; and refused once, it stays refused

@@ -10,7 +10,7 @@ ghost use Rattle.srm_flat_peaks.specs.Flat.{isPlausible, attempt, attemp
 ghost use Rattle.srm_flat_peaks.specs.Internal.{attemptAnswer};
 use float_bits::widened;
 use peaks::PeaksPlace;
-use peaks::hand_out;
+use peaks::write_peaks;
 use reader::remaining;
 use reader::saturating_add;
 use reader::saturating_sub;
@@ -97,6 +97,6 @@ pub fn read_flat_peaks(
 {
     match find_flat_peaks(run, data, cum_end, data_size) {
         PeaksPlace::Refused(r) => CountAnswer::Refused(r),
-        PeaksPlace::At { place, count } => hand_out(run, place, 8, count, false, mz, abundance),
+        PeaksPlace::At { place, count } => write_peaks(run, place, 8, count, false, mz, abundance),
     }
 }

@@ -12,7 +12,7 @@ use Rattle.parser.specs.Parser.{saturatingAdd}
 use Rattle.parser.specs.Call.{outcome, single}
 use Rattle.peaks.specs.Peaks.{Peak, peaksAt}
 use Rattle.peaks.proofs.Columns.{length-peaks}
-use Rattle.srm_scan.specs.Scan.{scan, peaks, readScan, findPeaks, windows, readWindows}
+use Rattle.srm_scan.specs.Scan.{scan, peaks, readSrmPeaks, findPeaks, windows, readSrmWindows}
 use Rattle.srm_scan.specs.Internal.{channels, windowsAt}
 use Rattle.srm_scan.proofs.Tables.{peaks-sized, windows-sized, peaks-are, windows-are}
 use Rattle.srm_scan.proofs.Counting.{by-channels}
@@ -51,14 +51,14 @@ module _ (place offset : ℕ) (s : List ℕ) (at : ℕ) (is : at ≡ saturatingA
 
   -- the windows
   module _ (l h : ℕ) where
-    windows-by : readWindows l h place offset s ≡ andThen (channels 8 s at) (λ n. pairsIfFit l h (windowsAt s (at + 32) n))
-    unfolding readWindows windowsAt
+    windows-by : readSrmWindows l h place offset s ≡ andThen (channels 8 s at) (λ n. pairsIfFit l h (windowsAt s (at + 32) n))
+    unfolding readSrmWindows windowsAt
     windows-by = rw (← is) (by-channels 8 windows windows-sized s at (windowsAt s (at + 32)) (windows-are s at) (sym (each-none _)) _)
 
-    pub windows-there : (n : ℕ) → ok n ≡ channels 8 s at → pairsIfFit l h (windowsAt s (at + 32) n) ≡ readWindows l h place offset s
+    pub windows-there : (n : ℕ) → ok n ≡ channels 8 s at → pairsIfFit l h (windowsAt s (at + 32) n) ≡ readSrmWindows l h place offset s
     windows-there n e = rw (windows-by, ← e)
 
-    pub no-windows : {number : ℕ} {carries : List ℕ} → refused number carries ≡ channels 8 s at → refused number carries ≡ readWindows l h place offset s
+    pub no-windows : {number : ℕ} {carries : List ℕ} → refused number carries ≡ channels 8 s at → refused number carries ≡ readSrmWindows l h place offset s
     no-windows e = rw (windows-by, ← e)
 
 -- whatever follows of peaks that were found, or of a refusal
@@ -81,10 +81,10 @@ module _ {A : Type 0} (follow : List Peak → Outcome A) (place offset : ℕ) (s
       rw (then-by place offset s at refl follow, ← r)
 
 module _ (place offset : ℕ) (s : List ℕ) (m a : ℕ) where
-  pub read-found : (p n : ℕ) → ok (p, n) ≡ findPeaks place offset s → pairsIfFit m a (peaksAt false 12 s p n) ≡ readScan m a place offset s
-  unfolding readScan
+  pub read-found : (p n : ℕ) → ok (p, n) ≡ findPeaks place offset s → pairsIfFit m a (peaksAt false 12 s p n) ≡ readSrmPeaks m a place offset s
+  unfolding readSrmPeaks
   read-found = then-found (pairsIfFit m a) place offset s
 
-  pub read-refused : {number : ℕ} {carries : List ℕ} → refused number carries ≡ findPeaks place offset s → refused number carries ≡ readScan m a place offset s
-  unfolding readScan
+  pub read-refused : {number : ℕ} {carries : List ℕ} → refused number carries ≡ findPeaks place offset s → refused number carries ≡ readSrmPeaks m a place offset s
+  unfolding readSrmPeaks
   read-refused = then-refused (pairsIfFit m a) place offset s

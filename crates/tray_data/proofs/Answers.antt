@@ -16,7 +16,7 @@ use Rattle.packet_peak_list.specs.PeakList.{itemSize}
 use Rattle.packet_profile.specs.Profile.{isFudged, Axis, Chunk, points, located}
 use Rattle.packet_profile.proofs.Answers.{profile-chunks}
 use Rattle.packet_record.specs.Packet.{OptionalProfile, absent, present, Contents, contentsAt, profilePlace}
-use Rattle.packet_record.specs.declared.Places.{Places}
+use Rattle.packet_record.specs.declared.PacketPlaces.{PacketPlaces}
 use Rattle.packet_header.specs.declared.PacketHeader as head
 use Rattle.packet_places.specs.Packet.{optionalProfile, packet}
 use Rattle.packet_places.specs.Places.{findPlaces}
@@ -40,19 +40,19 @@ module _ (s : List ℕ) (at : ℕ) (h : head.PacketHeader) where
   chunks-are p next e =
       chunks-parsed (isFudged (h .layout)) s (p .0 .peakCount) (at + 40 + 24) (profile-chunks (h .layout) s (at + 40) (present-parsed h s (at + 40) p next e))
 
-  content-is : (p : OptionalProfile) (next : ℕ) → parse (optionalProfile h) s (at + 40) ≡ parsed p next → (v : Places)
+  content-is : (p : OptionalProfile) (next : ℕ) → parse (optionalProfile h) s (at + 40) ≡ parsed p next → (v : PacketPlaces)
       → contentAt (packetData (profilePlace (h .layout) at p) v) s ≡ contentOf p (contentsAt s v .peaks)
   unfolding located
   content-is absent next e v = refl
   content-is (present p) next e v = ap (profile (record { «first_value» = p .0 .firstValue; step = p .0 .step })) (chunks-are p next e)
 
-  count-is : (p : OptionalProfile) (next : ℕ) → parse (optionalProfile h) s (at + 40) ≡ parsed p next → (v : Places) (coefficients : List ℕ)
+  count-is : (p : OptionalProfile) (next : ℕ) → parse (optionalProfile h) s (at + 40) ≡ parsed p next → (v : PacketPlaces) (coefficients : List ℕ)
       → length (pairs coefficients (contentAt (packetData (profilePlace (h .layout) at p) v) s)) ≡ countOf (packetData (profilePlace (h .layout) at p) v)
   unfolding pairs located
   count-is absent next e v coefficients = length-peak-pairs (v .list .wide) (itemSize (v .list .wide)) s (v .list .at) (v .list .count)
   count-is (present p) next e v coefficients = length-pairs _ coefficients _ ∙ ap (sum points) (chunks-are p next e)
 
-packet-content : (s : List ℕ) (at : ℕ) {v : Places} (t : Standing s at v) → contentAt (packetData (v .profile) v) s ≡ contentOf (t .stands .packet .profile) (t .stands .packet .contents .peaks)
+packet-content : (s : List ℕ) (at : ℕ) {v : PacketPlaces} (t : Standing s at v) → contentAt (packetData (v .profile) v) s ≡ contentOf (t .stands .packet .profile) (t .stands .packet .contents .peaks)
 packet-content s at {v} t =
     ap (λ p. contentAt (packetData p v) s) (t .is)
     ∙ content-is s at (t .header) (t .profile) (t .next) (t .profile-there) v
@@ -65,7 +65,7 @@ module _ (place offset size : ℕ) (s : List ℕ) where
       → length (pairs coefficients (contentAt d s)) ≡ countOf d
   unfolding findData pairs
   data-count PacketHeader e coefficients =
-      let m = made-of (λ (v : Places × Contents). packetData (v .0 .profile) (v .0)) (findPlaces (dataStart place offset) s) e in
+      let m = made-of (λ (v : PacketPlaces × Contents). packetData (v .0 .profile) (v .0)) (findPlaces (dataStart place offset) s) e in
       let v = m .value .0 in
       let t = standing s (dataStart place offset) (m .is) in
       let same = m .made ∙ ap (λ p. packetData p v) (t .is) in
@@ -87,7 +87,7 @@ module _ {A : Type 0} (follow : Content → Outcome A) (place offset size : ℕ)
       → follow (contentAt d s) ≡ outcome (single 4 (dataStart place offset) (scanData format (dataStart place offset) offset size) (λ f _. ofFinding follow f)) s
   unfolding findData scanData outcome
   data-found PacketHeader e =
-      let m = made-of (λ (v : Places × Contents). packetData (v .0 .profile) (v .0)) (findPlaces (dataStart place offset) s) e in
+      let m = made-of (λ (v : PacketPlaces × Contents). packetData (v .0 .profile) (v .0)) (findPlaces (dataStart place offset) s) e in
       let t = standing s (dataStart place offset) (m .is) in
       ap (λ d. follow (contentAt d s)) (m .made)
       ∙ ap follow (packet-content s (dataStart place offset) t)
@@ -108,7 +108,7 @@ module _ {A : Type 0} (follow : Content → Outcome A) (place offset size : ℕ)
       → refused n carries ≡ outcome (single 4 (dataStart place offset) (scanData format (dataStart place offset) offset size) (λ f _. ofFinding follow f)) s
   unfolding findData scanData outcome
   data-refused PacketHeader e =
-      let r = packet-short s (dataStart place offset) (refused-of (λ (v : Places × Contents). packetData (v .0 .profile) (v .0)) (findPlaces (dataStart place offset) s) e) in
+      let r = packet-short s (dataStart place offset) (refused-of (λ (v : PacketPlaces × Contents). packetData (v .0 .profile) (v .0)) (findPlaces (dataStart place offset) s) e) in
       sym (made-part 4 (dataStart place offset) packet (λ p. given (contentOf (p .profile) (p .contents .peaks))) (λ f _. ofFinding follow f) (λ p _. follow (contentOf (p .profile) (p .contents .peaks))) (λ _ _. refl) s
       ∙ rw (r .there, r .one, r .part))
   data-refused FlatV63 e =

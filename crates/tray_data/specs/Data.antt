@@ -13,7 +13,7 @@ use Rattle.packet_profile.specs.Profile.{Chunk}
 use Rattle.packet_record.specs.Packet.{OptionalProfile, absent, present}
 use Rattle.packet_record.specs.declared.PacketProfile.{PacketProfile}
 use Rattle.packet_record.specs.declared.PacketProfile.the-variants.{Absent, Present}
-use Rattle.packet_record.specs.declared.Places.{Places}
+use Rattle.packet_record.specs.declared.PacketPlaces.{PacketPlaces}
 use Rattle.packet_places.specs.Packet.{packet}
 use Rattle.packet_places.specs.Places.{findPlaces}
 use Rattle.srm_flat_peaks.specs.Flat.{Attempt, accepted, passedOver, flatPeaks, findFlatPeaks}
@@ -65,7 +65,7 @@ pairs coefficients (profile bins chunks) = pairsOf bins coefficients chunks
 pairs coefficients (centroids ps) = peakPairs ps
 
 -- what `find_data` answers: the same data, by their places
-abbrev pub packetData : PacketProfile → Places → ScanData
+abbrev pub packetData : PacketProfile → PacketPlaces → ScanData
 packetData Absent v = Peaks (record { at = v .list .at; stride = itemSize (v .list .wide); count = v .list .count; wide = v .list .wide })
 packetData (Present p) v = Profile p
 
