@@ -26,7 +26,7 @@ use reader::u64_at;
 use refusal::CountAnswer;
 use refusal::Refusal;
 
-// How many pairs a profile has. A count of chunks that the run does not hold costs no more turns than it has chunks.
+// How many pairs a profile has. The walk ends at the first chunk that the run does not hold, whatever count the record says.
 fn count_pairs(run: &[u8], profile: Profile) -> u64
     ensures { λ r. ⌜ r ≡ sum pointsOf (chunksOf profile (now (run .entry))) ⌝ }
 {
