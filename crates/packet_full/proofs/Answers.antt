@@ -7,7 +7,7 @@ use Rattle.parser.specs.Parser.{parsed, parse}
 use Rattle.parser.specs.Walk.{sum}
 use Rattle.parser.specs.Call.{outcome}
 use Rattle.packet_header.specs.declared.PacketHeader.{PacketHeader}
-use Rattle.packet_profile.specs.Profile.{points, profile, located}
+use Rattle.packet_profile.specs.Profile.{points, profile, profileRecord}
 use Rattle.packet_profile.proofs.Answers.{profile-chunks}
 use Rattle.packet_record.specs.Packet.{OptionalProfile, absent, present, Contents, contentsAt, profilePlace, packetIfFits}
 use Rattle.packet_record.specs.declared.PacketProfile.{PacketProfile}
@@ -26,10 +26,10 @@ record Chunked (v : PacketProfile) (p : OptionalProfile) (s : List ℕ) : Type 0
 
 chunked-as : (h : PacketHeader) (s : List ℕ) (at : ℕ) (p : OptionalProfile) (next : ℕ) → parse (optionalProfile h) s (at + 40) ≡ parsed p next
     → Chunked (profilePlace (h .layout) at p) p s
-unfolding chunkList located
+unfolding chunkList profileRecord
 chunked-as h s at absent next e = record { there = tt; list = refl }
 chunked-as h s at (present p) next e =
-    let v = located (h .layout) (at + 40) p in
+    let v = profileRecord (h .layout) (at + 40) p in
     let c = profile-chunks (h .layout) s (at + 40) (present-parsed h s (at + 40) p next e) in
     let list : chunkList v s ≡ p .1 = rw c in
     record {

@@ -11,7 +11,7 @@ use Rattle.peaks.specs.Peaks.{Peak, peaksAt}
 use Rattle.packet_peak_list.specs.PeakList.{itemSize, listPlace}
 use Rattle.packet_peak_list.specs.declared.PeakList.{PeakList}
 use Rattle.packet_labels.specs.Labels.{Streams, labels, labelPlaces, streamsAt, readLabels}
-use Rattle.packet_profile.specs.Profile.{Axis, Chunk, located}
+use Rattle.packet_profile.specs.Profile.{Axis, Chunk, profileRecord}
 use Rattle.packet_record.specs.declared.PacketProfile.{PacketProfile}
 use Rattle.packet_record.specs.declared.PacketProfile.the-variants.{Absent, Present}
 use Rattle.packet_record.specs.declared.PacketPlaces.{PacketPlaces}
@@ -43,7 +43,7 @@ afterPeaks h profile peaks = labels h (length peaks) >>= λ l. done (record { he
 -- where the profile of the packet at `at` stands: after the header, of 40 bytes
 abbrev pub profilePlace : ℕ → ℕ → OptionalProfile → PacketProfile
 profilePlace layout at absent = Absent
-profilePlace layout at (present p) = Present (located layout (at + 40) p)
+profilePlace layout at (present p) = Present (profileRecord layout (at + 40) p)
 
 -- where the parts of a packet stand whose peak list starts at `at`: the labels follow the list
 unfoldable pub placesFrom : PacketProfile → ℕ → Packet → PacketPlaces

@@ -38,7 +38,7 @@ fn count_pairs(run: &[u8], profile: Profile) -> u64
             return pairs;
         };
         pairs = pairs + found.points;
-        at = found.end;
+        at = found.next;
         passed = passed + 1;
     }
     pairs
@@ -80,7 +80,7 @@ fn write_pairs(
             &mut intensity[n..],
         );
         n = n + signal.points as usize;
-        at = signal.end;
+        at = signal.next;
         i = i + 1;
     }
 }

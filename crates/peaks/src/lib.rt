@@ -4,7 +4,7 @@ ghost use mathlib.Core.Path.{_≡_};
 ghost use Prim.Native.Nat.{_+_, _*_};
 ghost use Rattle.lists.specs.Left.{firsts, seconds, pairsIfFit, LeftList, LeftPairs};
 ghost use Rattle.lists.specs.Written.{each, fitting};
-ghost use Rattle.parser.specs.Parser.{bytes, littleEndian, wordAt};
+ghost use Rattle.parser.specs.Parser.{wordAt};
 ghost use Rattle.peaks.specs.Peaks.{widenedBits, peaksAt};
 use float_bits::bits_of_f64;
 use float_bits::widened;

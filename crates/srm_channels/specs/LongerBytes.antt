@@ -20,7 +20,7 @@ abbrev pub ListRefused : List (List ℕ) → List Channel → CountAnswer → Li
 ListRefused xs list r ys = (fits (lengths (channelLists list)) (lengths xs) ≡ false) × (r ≡ Refused NoRoom) × (ys ≡ xs)
 
 -- `list s` is the channel list of the bytes s, and `meets s r ys` says that on them the answer is r and the slices hold ys: on
--- longer bytes channels are added at the list's end; a list is answered or refused; and refused once, it stays refused
+-- longer bytes none or more channels are added at the list's end; a list is answered or refused; and refused once, it stays refused
 pub record ListOnLongerBytes (xs : List (List ℕ)) (list : List ℕ → List Channel) (meets : List ℕ → CountAnswer → List (List ℕ) → Type 0) : Type 0 where
   pub extends : (s t : List ℕ) → (more : List Channel) × (list (s ++ t) ≡ list s ++ more)
   pub answers : (s : List ℕ) (r : CountAnswer) (ys : List (List ℕ)) → meets s r ys → ListAnswered xs (list s) r ys ⊎ ListRefused xs (list s) r ys

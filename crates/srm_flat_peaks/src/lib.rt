@@ -34,7 +34,7 @@ fn is_plausible(bits: u32) -> bool
     mz == 0.0 || (mz > 10.0 && mz < 10000.0)
 }
 
-// An attempt at data_size - subtract peaks, of a record that ends at `end`. Peaks that are there are attemptAnswer by the first.
+// An attempt at data_size - subtract peaks, of a record that ends at `end`. Peaks that are there are accepted by the first.
 fn attempt_at(run: &[u8], end: u64, cum_end: u64, data_size: u32, subtract: u32) -> AttemptAnswer
     ensures { λ r. ⌜ r ≡ attemptAnswer (parse (attempt end «cum_end» «data_size» subtract) (now (run .entry)) end) ⌝ }
 {

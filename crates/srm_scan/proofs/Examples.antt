@@ -9,7 +9,7 @@ use Rattle.parser.specs.Parser.{parse, repeat, counted}
 use Rattle.parser.specs.Call.{outcome}
 use Rattle.lists.specs.Left.{pairsIfFit}
 use Rattle.peaks.specs.Peaks.{peak}
-use Rattle.srm_scan.specs.Scan.{scan, channel, peaks, readSrmPeaks, findPeaks, window, windows, readSrmWindows}
+use Rattle.srm_scan.specs.Scan.{scan, channel, peaks, readSrmPeaks, findSrmPeaks, window, windows, readSrmWindows}
 
 -- a byte, then a scan: one channel; its window of 10 to 100; its number 7, 500.03125 and 2.0
 abbrev one : List ℕ
@@ -19,11 +19,11 @@ one =
 
 peaks-of-one :
     (readSrmPeaks 1 1 1 0 one ≡ ok ((0x407f_4080_0000_0000, 0x4000_0000) ∷ []))
-    × (findPeaks 0 1 one ≡ ok (45, 1))
+    × (findSrmPeaks 0 1 one ≡ ok (45, 1))
     × (readSrmPeaks 1 0 0 1 one ≡ refused 8 [])
     × (readSrmPeaks 1 1 0 1 (take 52 one) ≡ refused 1 (4 ∷ []))
     × (readSrmPeaks 0 0 1 1 (0 ∷ 0 ∷ 0 ∷ 0 ∷ 0 ∷ 0 ∷ []) ≡ ok [])
-unfolding readSrmPeaks findPeaks outcome parse scan peaks channel counted repeat peak pairsIfFit ofBits toBits
+unfolding readSrmPeaks findSrmPeaks outcome parse scan peaks channel counted repeat peak pairsIfFit ofBits toBits
 peaks-of-one = (refl, refl, refl, refl, refl)
 
 windows-of-one :

@@ -32,8 +32,8 @@ unfoldable pub readSrmPeaks : ℕ → ℕ → ℕ → ℕ → List ℕ → Outco
 readSrmPeaks mz abundance place offset run = outcome (single 4 (saturatingAdd place offset) (scan peaks) (λ ps _. pairsIfFit mz abundance ps)) run
 
 -- what `find_srm_peaks` answers: the place of the first m/z, and how many peaks there are. The next m/z stands 12 bytes after it
-unfoldable pub findPeaks : ℕ → ℕ → List ℕ → Outcome (ℕ × ℕ)
-findPeaks place offset run =
+unfoldable pub findSrmPeaks : ℕ → ℕ → List ℕ → Outcome (ℕ × ℕ)
+findSrmPeaks place offset run =
     let at = saturatingAdd place offset in
     outcome (single 4 at (scan peaks) (λ ps _. ok (at + 36 + length ps * 8, length ps))) run
 

@@ -6,7 +6,7 @@ ghost use lib.ListN.{length};
 ghost use Rattle.refusal.specs.Number.{outcomeOfCount};
 ghost use Rattle.lists.specs.Left.{pairsIfFit, LeftPairs};
 ghost use Rattle.peaks.specs.Peaks.{outcomeOfPlace};
-ghost use Rattle.srm_scan.specs.Scan.{readSrmPeaks, findPeaks, readSrmWindows};
+ghost use Rattle.srm_scan.specs.Scan.{readSrmPeaks, findSrmPeaks, readSrmWindows};
 ghost use Rattle.srm_scan.specs.Internal.{channels, windowsAt};
 use lists::holds;
 use peaks::PeaksPlace;
@@ -40,7 +40,7 @@ fn count_channels(run: &[u8], at: u64, size: u64) -> CountAnswer
 
 // The peaks of a scan, found and not handed out. Each m/z stands 12 bytes after the one before, its abundance right after it.
 pub fn find_srm_peaks(run: &[u8], data: u64, offset: u64) -> PeaksPlace
-    ensures { λ r. ⌜ outcomeOfPlace r ≡ findPeaks «data» offset (now (run .entry)) ⌝ }
+    ensures { λ r. ⌜ outcomeOfPlace r ≡ findSrmPeaks «data» offset (now (run .entry)) ⌝ }
 {
     let at = saturating_add(data, offset);
     match count_channels(run, at, 20) {

@@ -13,7 +13,7 @@ use Rattle.parser.proofs.Answered.{made-part}
 use Rattle.scan_format.specs.declared.ScanDataFormat.{ScanDataFormat}
 use Rattle.scan_format.specs.declared.ScanDataFormat.the-variants.{PacketHeader, FlatV63, FlatV66}
 use Rattle.packet_peak_list.specs.PeakList.{itemSize}
-use Rattle.packet_profile.specs.Profile.{isFudged, Axis, Chunk, points, located}
+use Rattle.packet_profile.specs.Profile.{isFudged, Axis, Chunk, points, profileRecord}
 use Rattle.packet_profile.proofs.Answers.{profile-chunks}
 use Rattle.packet_record.specs.Packet.{OptionalProfile, absent, present, Contents, contentsAt, profilePlace}
 use Rattle.packet_record.specs.declared.PacketPlaces.{PacketPlaces}
@@ -24,7 +24,7 @@ use Rattle.packet_places.proofs.Stages.{present-parsed}
 use Rattle.packet_places.proofs.Answers.{packet-short, Standing, standing}
 use Rattle.srm_flat_peaks.specs.Flat.{Attempt, accepted, passedOver, flatPeaks, ofAccepted, findFlatPeaks}
 use Rattle.srm_flat_peaks.proofs.Answers as flat
-use Rattle.srm_scan.specs.Scan.{scan, peaks, findPeaks}
+use Rattle.srm_scan.specs.Scan.{scan, peaks, findSrmPeaks}
 use Rattle.srm_scan.proofs.Answers as srm
 use Rattle.pairs.specs.Pairs.{chunksOf}
 use Rattle.pairs.proofs.Profiles.{chunks-parsed}
@@ -35,20 +35,20 @@ use Rattle.tray_data.specs.declared.ScanData.{ScanData}
 
 -- ---- a packet
 module _ (s : List ℕ) (at : ℕ) (h : head.PacketHeader) where
-  chunks-are : (p : Axis × List Chunk) (next : ℕ) → parse (optionalProfile h) s (at + 40) ≡ parsed (present p) next → chunksOf (located (h .layout) (at + 40) p) s ≡ p .1
-  unfolding located
+  chunks-are : (p : Axis × List Chunk) (next : ℕ) → parse (optionalProfile h) s (at + 40) ≡ parsed (present p) next → chunksOf (profileRecord (h .layout) (at + 40) p) s ≡ p .1
+  unfolding profileRecord
   chunks-are p next e =
       chunks-parsed (isFudged (h .layout)) s (p .0 .peakCount) (at + 40 + 24) (profile-chunks (h .layout) s (at + 40) (present-parsed h s (at + 40) p next e))
 
   content-is : (p : OptionalProfile) (next : ℕ) → parse (optionalProfile h) s (at + 40) ≡ parsed p next → (v : PacketPlaces)
       → contentAt (packetData (profilePlace (h .layout) at p) v) s ≡ contentOf p (contentsAt s v .peaks)
-  unfolding located
+  unfolding profileRecord
   content-is absent next e v = refl
   content-is (present p) next e v = ap (profile (record { «first_value» = p .0 .firstValue; step = p .0 .step })) (chunks-are p next e)
 
   count-is : (p : OptionalProfile) (next : ℕ) → parse (optionalProfile h) s (at + 40) ≡ parsed p next → (v : PacketPlaces) (coefficients : List ℕ)
       → length (pairs coefficients (contentAt (packetData (profilePlace (h .layout) at p) v) s)) ≡ countOf (packetData (profilePlace (h .layout) at p) v)
-  unfolding pairs located
+  unfolding pairs profileRecord
   count-is absent next e v coefficients = length-peak-pairs (v .list .wide) (itemSize (v .list .wide)) s (v .list .at) (v .list .count)
   count-is (present p) next e v coefficients = length-pairs _ coefficients _ ∙ ap (sum points) (chunks-are p next e)
 
@@ -74,7 +74,7 @@ module _ (place offset size : ℕ) (s : List ℕ) where
       let m = made-of (narrowPeaks 8) (findFlatPeaks place offset size s) e in
       rw (m .made) (length-peak-pairs false 8 s (m .value .0) (m .value .1))
   data-count FlatV66 e coefficients =
-      let m = made-of (narrowPeaks 12) (findPeaks place offset s) e in
+      let m = made-of (narrowPeaks 12) (findSrmPeaks place offset s) e in
       rw (m .made) (length-peak-pairs false 12 s (m .value .0) (m .value .1))
 
 module _ {A : Type 0} (follow : Content → Outcome A) (place offset size : ℕ) (s : List ℕ) where
@@ -99,7 +99,7 @@ module _ {A : Type 0} (follow : Content → Outcome A) (place offset size : ℕ)
       ∙ flat.then-found (λ ps. follow (centroids ps)) place offset size s (m .value .0) (m .value .1) (m .is)
       ∙ sym (made-part 4 (dataStart place offset) (flatPeaks (dataStart place offset) offset size) ofAttempt (λ f _. ofFinding follow f) _ (λ a _. after-attempt a) s)
   data-found FlatV66 e =
-      let m = made-of (narrowPeaks 12) (findPeaks place offset s) e in
+      let m = made-of (narrowPeaks 12) (findSrmPeaks place offset s) e in
       ap (λ d. follow (contentAt d s)) (m .made)
       ∙ srm.then-found (λ ps. follow (centroids ps)) place offset s (m .value .0) (m .value .1) (m .is)
       ∙ sym (made-part 4 (dataStart place offset) (scan peaks) (λ ps. given (centroids ps)) (λ f _. ofFinding follow f) _ (λ _ _. refl) s)
@@ -115,5 +115,5 @@ module _ {A : Type 0} (follow : Content → Outcome A) (place offset size : ℕ)
       flat.then-refused (λ ps. follow (centroids ps)) place offset size s (refused-of (narrowPeaks 8) (findFlatPeaks place offset size s) e)
       ∙ sym (made-part 4 (dataStart place offset) (flatPeaks (dataStart place offset) offset size) ofAttempt (λ f _. ofFinding follow f) _ (λ a _. after-attempt a) s)
   data-refused FlatV66 e =
-      srm.then-refused (λ ps. follow (centroids ps)) place offset s (refused-of (narrowPeaks 12) (findPeaks place offset s) e)
+      srm.then-refused (λ ps. follow (centroids ps)) place offset s (refused-of (narrowPeaks 12) (findSrmPeaks place offset s) e)
       ∙ sym (made-part 4 (dataStart place offset) (scan peaks) (λ ps. given (centroids ps)) (λ f _. ofFinding follow f) _ (λ _ _. refl) s)

@@ -17,7 +17,7 @@ use Rattle.packet_record.specs.declared.PacketPlaces.{PacketPlaces}
 use Rattle.packet_places.specs.Packet.{packet}
 use Rattle.packet_places.specs.Places.{findPlaces}
 use Rattle.srm_flat_peaks.specs.Flat.{Attempt, accepted, passedOver, flatPeaks, findFlatPeaks}
-use Rattle.srm_scan.specs.Scan.{scan, peaks, findPeaks}
+use Rattle.srm_scan.specs.Scan.{scan, peaks, findSrmPeaks}
 use Rattle.calibration.specs.declared.Bins.{Bins}
 use Rattle.pairs.specs.Pairs.{Pair, chunksOf, binsOf, pairsOf, peakPairs}
 use Rattle.tray_data.specs.declared.ScanData.{ScanData}
@@ -75,7 +75,7 @@ narrowPeaks stride p = Peaks (record { at = p .0; stride = stride; count = p .1;
 unfoldable pub findData : ScanDataFormat → ℕ → ℕ → ℕ → List ℕ → Outcome ScanData
 findData PacketHeader place offset size run = onOk (λ v. packetData (v .0 .profile) (v .0)) (findPlaces (dataStart place offset) run)
 findData FlatV63 place offset size run = onOk (narrowPeaks 8) (findFlatPeaks place offset size run)
-findData FlatV66 place offset size run = onOk (narrowPeaks 12) (findPeaks place offset run)
+findData FlatV66 place offset size run = onOk (narrowPeaks 12) (findSrmPeaks place offset run)
 
 -- what stands at these places, and how many pairs it gives
 abbrev pub contentAt : ScanData → List ℕ → Content
