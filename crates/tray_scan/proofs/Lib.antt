@@ -1,5 +1,4 @@
 pub mod Parts
-pub mod Handed
-pub mod Results
+pub mod Writing
 pub mod OneAnswer
 pub mod LongerBytes
