@@ -2,6 +2,7 @@
 use mathlib.Core.Path.{_≡_, refl, _∙_}
 use Prim.Native.Nat.{ℕ, _-_, _≤_, _<_}
 use native.Mathlib.Nat.{le-refl}
+use native.Mathlib.Omega.{arith}
 use mathlib.Core.Bool.{Bool, true, false, cond}
 use mathlib.Core.List.{List, []}
 use lib.Dec.{ltb}
@@ -12,6 +13,7 @@ use Rattle.refusal.specs.Outcome.{ok, refused, andThen}
 use Rattle.refusal.proofs.Outcomes.{both-ok, ok-not-refused}
 use Rattle.tray_header.specs.Header.{readHeader}
 use Rattle.tray_header.specs.declared.TrayHeader.{TrayHeader}
+use Rattle.tray_header.proofs.Found.{whole}
 use Rattle.tray_scan.specs.Scan.{scanAt}
 use Rattle.tray.specs.Scan.{headerWith, readScanFrom}
 
@@ -44,6 +46,12 @@ module _ (limit number : ℕ) (s : List ℕ) where
         go : (v : TrayHeader) → ok v ≡ readHeader limit number s → (t : Bool) → ltb k (v .scans) ≡ t → ok h ≡ cond t (ok v) (refused 7 []) → Numbered h
         go v f true t j = let same : h ≡ v = cc in record { header = rw same f; below = rw same (ltb-true k (v .scans) t) }
         go v f false t j = ok-not-refused j
+
+    pub with-size : {h : TrayHeader} → ok h ≡ headerWith limit number k s → 32 ≤ length s
+    with-size i = whole limit number s (numbered i .header) .size
+
+    pub with-few : {h : TrayHeader} → ok h ≡ headerWith limit number k s → k < limit
+    with-few i = let n = numbered i in omega (arith, n .below, whole limit number s (n .header) .few)
 
   -- scan k from a place
   module _ (k at : ℕ) (capacities : List ℕ) where

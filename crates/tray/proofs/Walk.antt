@@ -15,7 +15,7 @@ use Rattle.events.specs.Event.{eventEnd, eventPlace}
 use Rattle.events.proofs.Steps.{place-none, place-more, none-after}
 use Rattle.tray_header.specs.Header.{readHeader}
 use Rattle.tray_header.specs.declared.TrayHeader.{TrayHeader}
-use Rattle.tray_scan.specs.Scan.{eventIn, scanParts, scanIfFits, endIn, placeOrEnd}
+use Rattle.tray_scan.specs.Scan.{eventIn, scanParts, scanIfFits, scanAt, endIn, placeOrEnd}
 use Rattle.tray_scan.proofs.Parts.{same-event}
 use Rattle.tray.specs.Scan.{overRun, headerWith, readScan, readScanFrom, eventOf, nextEvent}
 use Rattle.tray.proofs.Headers.{has-scan}
@@ -97,9 +97,14 @@ module _ (limit number : ℕ) (s : List ℕ) where
         in-tray (refused n carries) (λ h j. from-end h k (drop 32 s) j at beyond) i
 
   -- read at the place of event k, or after the end
-  module _ (capacities : List ℕ) (k : ℕ) {h : TrayHeader} (i : ok h ≡ headerWith limit number k s) where
-    pub scan-in : length s < 2 ^ 63 → andThen (outcome (scanParts h k (placeOrEnd (placeIn h k (drop 32 s))) (eventIn h)) (drop 32 s)) (scanIfFits capacities) ≡ readScan limit number capacities k s
+  module _ (capacities : List ℕ) (k : ℕ) where
+    pub no-header-no-scan : {n : ℕ} {carries : List ℕ} → refused n carries ≡ headerWith limit number k s → refused n carries ≡ readScan limit number capacities k s
     unfolding readScan
-    scan-in few =
+    no-header-no-scan i = rw (← i)
+
+    pub scan-in : {h : TrayHeader} → ok h ≡ headerWith limit number k s → length s < 2 ^ 63 → {at : ℕ} → at ≡ placeOrEnd (placeIn h k (drop 32 s))
+        → scanAt capacities h k at (drop 32 s) ≡ readScan limit number capacities k s
+    unfolding readScan scanAt
+    scan-in {h} i few e =
         let short : length (drop 32 s) < 2 ^ 63 = simp length-drop (omega arith) in
-        rw (← i) (ap (λ o. andThen o (scanIfFits capacities)) (from-either h k (drop 32 s) short))
+        rw (e, ← i) (ap (λ o. andThen o (scanIfFits capacities)) (from-either h k (drop 32 s) short))

@@ -8,7 +8,7 @@ use mathlib.Core.List.{List, [], _∷_, _++_}
 use lib.Dec.{lit≤, lit<}
 use lib.Ieee.{Float}
 use lib.ListN.{length}
-use Rattle.refusal.specs.Outcome.{ok, ranOut, andThen}
+use Rattle.refusal.specs.Outcome.{Outcome, ok, ranOut, andThen}
 use Rattle.refusal.proofs.Outcomes.{ok-not-refused}
 use Rattle.lists.specs.Written.{over}
 use Rattle.lists.specs.Left.{firsts, seconds, fits, lengths, overAll, listsAndPairsIfFit, LeftListsAndPairs}
@@ -133,6 +133,17 @@ scan-not-truncated capacities p =
     let ps = pairs (p .event .coefficients) (p .content) in
     not-truncated-room {A = WrittenScan} (fits (lengths (eventLists (p .event)) ++ length ps ∷ length ps ∷ []) capacities) _
 
+-- what is lent, and the sentences on a call that writes a scan
+abbrev pub Lent : Type 0
+Lent = List (List ℕ) × List Float × List Float
+
+pub written-longer : (xs : List (List ℕ)) (m i : List Float) (parts : ℕ → Type 0) (near : ℕ → List ℕ → Type 0) (f : List ℕ → Outcome WrittenScan) → PrefixProperty f → Names parts f
+    → ((q : ℕ) → parts q → (s : List ℕ) → Bytes s → length s < 2 ^ 62 → near q s → CompletesOn q f s)
+    → OnLongerBytes outcomeOf (λ s r (ys : Lent). LeftListsAndPairs (λ _. f s) xs m i (outcomeOf r) (ys .0) (ys .1) (ys .2)) parts near
+written-longer xs m i parts near f prefix names completes =
+    left-longer outcomeOf scan-answer-one f prefix parts near names (λ q s isBytes few low o. completes q (names s q o) s isBytes few low o) (λ (v : WrittenScan). v .0)
+    (λ (v : WrittenScan) (l : Lent). (overAll (v .1) (l .0), over (firsts (v .2)) (l .1), over (seconds (v .2)) (l .2))) (xs, m, i)
+
 abbrev andNext : ScanAnswer → ℕ → ScanAndNext
 andNext scan next = record { scan = scan; next = next }
 
@@ -177,19 +188,13 @@ module _ (h : TrayHeader) (w : Words h) (k : ℕ) (small : k < 2 ^ 32) (at : ℕ
 
   -- the sentences, on the answer, the next place and all six slices
   module _ (xs : List (List ℕ)) (m i : List Float) where
-    abbrev pub Lent : Type 0
-    Lent = List (List ℕ) × List Float × List Float
-
     abbrev pub Meets : List ℕ → ScanAndNext → Lent → Type 0
     Meets s r ys = LeftListsAndPairs (λ c. scanAt c h k at s) xs m i (outcomeOf (r .scan)) (ys .0) (ys .1) (ys .2) × (r .next ≡ placeOrEnd (endIn h at s))
 
     pub scan-at-longer : OnLongerBytes (λ r. outcomeOf (r .scan)) Meets RunPart AtNear
     scan-at-longer =
         let capacities = lengths xs ++ length m ∷ length i ∷ [] in
-        let scan =
-        left-longer outcomeOf scan-answer-one (scanAt capacities h k at) (scan-at-prefix capacities) RunPart AtNear (scan-at-names capacities)
-        (λ q s isBytes few near o. scan-at-completes capacities q (scan-at-names capacities s q o) s isBytes few near o) (λ (v : WrittenScan). v .0)
-        (λ (v : WrittenScan) (l : Lent). (overAll (v .1) (l .0), over (firsts (v .2)) (l .1), over (seconds (v .2)) (l .2))) (xs, m, i) in
+        let scan = written-longer xs m i RunPart AtNear (scanAt capacities h k at) (scan-at-prefix capacities) (scan-at-names capacities) (scan-at-completes capacities) in
         record {
           stays = λ s t r q ys zs a b never.
               let both = scan .stays s t (r .scan) (q .scan) ys zs (a .0) (b .0) never in
