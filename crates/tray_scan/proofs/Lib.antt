@@ -1,4 +1,5 @@
 pub mod Parts
 pub mod Writing
+pub mod Consistent
 pub mod OneAnswer
 pub mod LongerBytes

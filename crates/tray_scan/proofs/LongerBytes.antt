@@ -148,7 +148,7 @@ abbrev andNext : ScanAnswer → ℕ → ScanAndNext
 andNext scan next = record { scan = scan; next = next }
 
 -- ---- a scan whose event stands at a place of the caller's
-module _ (h : TrayHeader) (w : Words h) (k : ℕ) (small : k < 2 ^ 32) (at : ℕ) where
+module _ (h : TrayHeader) (k at : ℕ) where
   -- only the caller's place and the data's can be 2^62 or more
   abbrev pub AtNear : ℕ → List ℕ → Type 0
   AtNear q s = (q ≡ 3 → at < 2 ^ 62) × (q ≡ 4 → DataNear h k s)
@@ -165,9 +165,9 @@ module _ (h : TrayHeader) (w : Words h) (k : ℕ) (small : k < 2 ^ 32) (at : ℕ
         then-names (outcome c) (scanIfFits capacities) (scan-not-truncated capacities) RunPart
         (parts-names RunPart c (scan-parts-in h k at (eventIn h) RunPart (inl refl) (inr (inl refl)) (inr (inr refl))))
 
-    pub scan-at-completes : (q : ℕ) → RunPart q → (s : List ℕ) → Bytes s → length s < 2 ^ 62 → AtNear q s → CompletesOn q (scanAt capacities h k at) s
+    pub scan-at-completes : Words h → k < 2 ^ 32 → (q : ℕ) → RunPart q → (s : List ℕ) → Bytes s → length s < 2 ^ 62 → AtNear q s → CompletesOn q (scanAt capacities h k at) s
     unfolding scanAt
-    scan-at-completes q p s isBytes few near =
+    scan-at-completes w small q p s isBytes few near =
         let c = scanParts h k at (eventIn h) in
         then-completes-on (outcome c) (scanIfFits capacities) (scan-not-truncated capacities) q s
         (completion (2 ^ 61) (lit< tt) q c s (scan-covers h k at (eventIn h) w small s isBytes q p (λ e. (near .0 e, event-bounded h k w)) (near .1)) isBytes few)
@@ -191,10 +191,10 @@ module _ (h : TrayHeader) (w : Words h) (k : ℕ) (small : k < 2 ^ 32) (at : ℕ
     abbrev pub Meets : List ℕ → ScanAndNext → Lent → Type 0
     Meets s r ys = LeftListsAndPairs (λ c. scanAt c h k at s) xs m i (outcomeOf (r .scan)) (ys .0) (ys .1) (ys .2) × (r .next ≡ placeOrEnd (endIn h at s))
 
-    pub scan-at-longer : OnLongerBytes (λ r. outcomeOf (r .scan)) Meets RunPart AtNear
-    scan-at-longer =
+    pub scan-at-longer : Words h → k < 2 ^ 32 → OnLongerBytes (λ r. outcomeOf (r .scan)) Meets RunPart AtNear
+    scan-at-longer w small =
         let capacities = lengths xs ++ length m ∷ length i ∷ [] in
-        let scan = written-longer xs m i RunPart AtNear (scanAt capacities h k at) (scan-at-prefix capacities) (scan-at-names capacities) (scan-at-completes capacities) in
+        let scan = written-longer xs m i RunPart AtNear (scanAt capacities h k at) (scan-at-prefix capacities) (scan-at-names capacities) (scan-at-completes capacities w small) in
         record {
           stays = λ s t r q ys zs a b never.
               let both = scan .stays s t (r .scan) (q .scan) ys zs (a .0) (b .0) never in

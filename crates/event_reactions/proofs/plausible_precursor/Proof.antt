@@ -1,10 +1,10 @@
--- `event_reactions::plausible` meets its contract: each way through the `&&` says which tests held on it.
+-- `event_reactions::plausible_precursor` meets its contract: each way through the `&&` says which tests held on it.
 use mathlib.Core.Path.{sym, _∙_}
 use mathlib.Core.Logic.{⊎-elim}
 use Rattle.event_reactions.proofs.Constants.{zero-is, limit-is}
 use borrow.Author.Needs.{needs}
-use Rattle.event_reactions.proofs.plausible.Statement.{statement}
-use Rattle.event_reactions.proofs.plausible.Tie as tie
+use Rattle.event_reactions.proofs.plausible_precursor.Statement.{statement}
+use Rattle.event_reactions.proofs.plausible_precursor.Tie as tie
 
 returns : tie.Need-returns
 returns c =
@@ -26,5 +26,5 @@ returns-2 c =
     (λ w. simp (c .if2 .left, finite ∙ w .0 .left))
     (j .if1 .came)
 
-pub plausible-spec : {M : Type 1} → statement M
-plausible-spec = tie.close (tie.spec (search needs) (search needs) returns returns-2)
+pub plausible-precursor-spec : {M : Type 1} → statement M
+plausible-precursor-spec = tie.close (tie.spec (search needs) (search needs) returns returns-2)
