@@ -1,4 +1,4 @@
--- What is handed out of a packet by the places of its parts.
+-- What is written of a packet by the places of its parts.
 use mathlib.Core.Path.{_≡_, ap, _∙_}
 use Prim.Native.Nat.{ℕ, _+_, _*_, _-_, _^_, _≤_, _<_, min}
 use mathlib.Core.Bool.{Bool, true, false, _&&_}
@@ -18,7 +18,7 @@ use Rattle.peaks.specs.Peaks.{peaksAt}
 use Rattle.peaks.proofs.Columns.{length-peaks}
 use Rattle.packet_peak_list.specs.PeakList.{itemSize}
 use Rattle.packet_record.specs.Packet.{contentsAt, recordOf, listsOf, packetIfFits, nodesAt}
-use Rattle.packet_record.specs.declared.Places.{Places}
+use Rattle.packet_record.specs.declared.PacketPlaces.{PacketPlaces}
 use Rattle.packet_record.specs.declared.ScanDataPacket.{ScanDataPacket}
 
 -- pairs in slices that hold them
@@ -29,7 +29,7 @@ pairs-whole {A} {B} ps h k l =
     let e = rw (le-leb _ _ h, le-leb _ _ k) at (l .stands) in
     (ap (λ (p : List A × List B). p .0) e, ap (λ (p : List A × List B). p .1) e)
 
-module _ (v : Places) (s m a d q : List ℕ) where
+module _ (v : PacketPlaces) (s m a d q : List ℕ) where
   long-peaks : length (contentsAt s v .peaks) ≡ v .list .count
   long-peaks = length-peaks (v .list .wide) (itemSize (v .list .wide)) s (v .list .at) (v .list .count)
 

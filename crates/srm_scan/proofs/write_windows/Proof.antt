@@ -1,10 +1,10 @@
--- `srm_scan::hand_out_windows` meets its contract: the room is tested, and then both ends are copied.
+-- `srm_scan::write_windows` meets its contract: the room is tested, and then both ends are copied.
 use mathlib.Core.Path.{sym, _∙_}
 use Rattle.lists.proofs.Left.{pairs-no-room, pairs-written}
 use Rattle.srm_scan.proofs.Room.{length-windows, low-column, high-column}
 use borrow.Author.Needs.{needs}
-use Rattle.srm_scan.proofs.hand_out_windows.Statement.{statement}
-use Rattle.srm_scan.proofs.hand_out_windows.Tie as tie
+use Rattle.srm_scan.proofs.write_windows.Statement.{statement}
+use Rattle.srm_scan.proofs.write_windows.Tie as tie
 
 returns : tie.Need-returns
 returns c =
@@ -18,5 +18,5 @@ returns-2 : tie.Need-returns-2
 returns-2 c =
     pairs-no-room _ (length-windows _ _ _) _ _ (sym (rw (c .before .before .holds .ensures) at (c .before .holds2 .ensures)) ∙ c .if1 .left)
 
-pub hand-out-windows-spec : {M : Type 1} → statement M
-hand-out-windows-spec = tie.close (tie.spec (search needs) (search needs) (search needs) (search needs) (search needs) (search needs) (search needs) returns returns-2)
+pub write-windows-spec : {M : Type 1} → statement M
+write-windows-spec = tie.close (tie.spec (search needs) (search needs) (search needs) (search needs) (search needs) (search needs) (search needs) returns returns-2)

@@ -4,10 +4,10 @@ use mathlib.Core.List.{[], _∷_}
 use denote.Ref.{now}
 use Rattle.lists.specs.Left.{fits, lengths}
 use Rattle.packet_record.specs.Packet.{contentsAt, listsOf}
-use Rattle.packet_record.proofs.HandOut.{tested, packet-refused, packet-written}
+use Rattle.packet_record.proofs.Writing.{tested, packet-refused, packet-written}
 use borrow.Author.Needs.{needs}
-use Rattle.packet_record.proofs.hand_out.Statement.{statement}
-use Rattle.packet_record.proofs.hand_out.Tie as tie
+use Rattle.packet_record.proofs.write_packet.Statement.{statement}
+use Rattle.packet_record.proofs.write_packet.Tie as tie
 
 -- what the tests say
 test : (c : tie.After-holds4) → let a = c .before .before .before .before .before .before .before .before .before .before .args in
@@ -27,5 +27,5 @@ returns c =
 returns-2 : tie.Need-returns-2
 returns-2 c = packet-refused _ _ _ _ _ _ (sym (test (c .before)) ∙ c .if1 .left)
 
-pub hand-out-spec : {M : Type 1} → statement M
-hand-out-spec = tie.close (tie.spec (search needs) (search needs) (search needs) (search needs) write-lists-requires (search needs) (search needs) (search needs) (search needs) (search needs) returns returns-2)
+pub write-packet-spec : {M : Type 1} → statement M
+write-packet-spec = tie.close (tie.spec (search needs) (search needs) (search needs) (search needs) write-lists-requires (search needs) (search needs) (search needs) (search needs) (search needs) returns returns-2)

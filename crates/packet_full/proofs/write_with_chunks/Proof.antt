@@ -1,11 +1,11 @@
--- The room for the chunks is tested first; then the lists are handed out, or refused; and then the chunks are written.
+-- The room for the chunks is tested first; then the lists are written, or refused; and then the chunks are written.
 use mathlib.Core.Path.{_≡_, sym, _∙_}
 use denote.Ref.{now}
 use Rattle.packet_full.specs.Internal.{chunksAt}
-use Rattle.packet_full.proofs.HandOut.{chunkRoom, tested, has-chunks, no-chunk-room, lists-refused, all-written}
+use Rattle.packet_full.proofs.WithChunks.{chunkRoom, tested, has-chunks, no-chunk-room, lists-refused, all-written}
 use borrow.Author.Needs.{needs}
-use Rattle.packet_full.proofs.hand_out.Statement.{statement}
-use Rattle.packet_full.proofs.hand_out.Tie as tie
+use Rattle.packet_full.proofs.write_with_chunks.Statement.{statement}
+use Rattle.packet_full.proofs.write_with_chunks.Tie as tie
 
 -- what the tests say
 test : (c : tie.After-holds4) → let a = c .before .before .before .before .before .before .before .before .before .before .before .before .before .before .args in
@@ -25,19 +25,19 @@ write-profile-requires c κs =
 returns : tie.Need-returns
 returns c =
     let a = c .before .before .before .before .before .before .before .before .before .before .before .before .before .before .before .before .before .before .before .before .before .before .before .before .before .before .before .before .before .before .before .args in
-    lists-refused _ _ (chunksAt (a .places .profile) (now (a .run))) _ _ _ _ _ _ _ _ (rw (c .before .r .given .1) at (c .before .before .before .before .before .before .before .before .before .before .before .hand-out .ensures))
+    lists-refused _ _ (chunksAt (a .places .profile) (now (a .run))) _ _ _ _ _ _ _ _ (rw (c .before .r .given .1) at (c .before .before .before .before .before .before .before .before .before .before .before .write-packet .ensures))
 
 returns-2 : tie.Need-returns-2
 returns-2 c =
     let p = c .before .before .before .before .before .before .before .before .before .before .before .before .before .before in
     let t = p .before .before .before .before .before .before .before .before .before .before .before .before .before .before .before in
     let a = t .before .before .before .before .before .before .before .before .before .before .before .before .before .before .before .args in
-    all-written _ _ (chunksAt (a .places .profile) (now (a .run))) _ _ _ _ _ _ _ _ (sym (test (t .before)) ∙ t .if1 .taken) (rw (p .packet .given .1) at (p .before .before .before .before .before .before .before .before .before .before .hand-out .ensures)) (c .before .before .before .before .before .before .before .before .write-profile .ensures)
+    all-written _ _ (chunksAt (a .places .profile) (now (a .run))) _ _ _ _ _ _ _ _ (sym (test (t .before)) ∙ t .if1 .taken) (rw (p .packet .given .1) at (p .before .before .before .before .before .before .before .before .before .before .write-packet .ensures)) (c .before .before .before .before .before .before .before .before .write-profile .ensures)
 
 returns-3 : tie.Need-returns-3
 returns-3 c =
     let a = c .before .before .before .before .before .before .before .before .before .before .before .before .before .before .before .args in
     no-chunk-room _ _ (chunksAt (a .places .profile) (now (a .run))) _ _ _ _ _ _ _ _ (sym (test (c .before)) ∙ c .if1 .left)
 
-pub hand-out-spec : {M : Type 1} → statement M
-hand-out-spec = tie.close (tie.spec (search needs) (search needs) (search needs) (search needs) (search needs) (search needs) (search needs) (search needs) write-profile-requires (search needs) (search needs) (search needs) (search needs) returns (search needs) (search needs) (search needs) (search needs) (search needs) (search needs) (search needs) (search needs) returns-2 returns-3)
+pub write-with-chunks-spec : {M : Type 1} → statement M
+write-with-chunks-spec = tie.close (tie.spec (search needs) (search needs) (search needs) (search needs) (search needs) (search needs) (search needs) (search needs) write-profile-requires (search needs) (search needs) (search needs) (search needs) returns (search needs) (search needs) (search needs) (search needs) (search needs) (search needs) (search needs) (search needs) returns-2 returns-3)

@@ -1,4 +1,4 @@
--- What is handed out of a whole packet: its lists by a call of their own, and then its chunks.
+-- What is written of a whole packet: its lists by a call of their own, and then its chunks.
 use mathlib.Core.Path.{_≡_, refl, ap, sym, _∙_}
 use Prim.Native.Nat.{ℕ}
 use native.Mathlib.Omega.{arith}
@@ -15,7 +15,7 @@ use Rattle.packet_profile.specs.Profile.{Chunk, points, chunk}
 use Rattle.packet_record.specs.Packet.{Contents, recordOf, listsOf, packetIfFits}
 use Rattle.packet_record.specs.declared.PacketProfile.{PacketProfile}
 use Rattle.packet_record.specs.declared.PacketProfile.the-variants.{Absent, Present}
-use Rattle.packet_record.specs.declared.Places.{Places}
+use Rattle.packet_record.specs.declared.PacketPlaces.{PacketPlaces}
 use Rattle.packet_record.specs.declared.ScanDataPacket.{ScanDataPacket}
 use Rattle.packet_full.specs.Full.{chunkLists}
 use Rattle.packet_full.specs.Internal.{chunksAt, ProfileThere, HasChunks, chunkCount, pointCount}
@@ -67,7 +67,7 @@ four-and false b c d e = refl
 abbrev Answer : Type 0
 Answer = (ScanDataPacket × List ℕ) × List (List ℕ)
 
-module _ (v : Places) (c : Contents) (cs : List Chunk) (m a d q b n f w : List ℕ) where
+module _ (v : PacketPlaces) (c : Contents) (cs : List Chunk) (m a d q b n f w : List ℕ) where
   abbrev lent : List (List ℕ)
   lent = m ∷ a ∷ d ∷ q ∷ b ∷ n ∷ f ∷ w ∷ []
 
