@@ -7,7 +7,7 @@ use lib.Dec.{eqb}
 use Rattle.event_preamble.specs.Settings.{isPrimary}
 use borrow.Author.Tests.{le-leb, lt-leb}
 use Rattle.refusal.specs.Outcome.{ok, ranOut}
-use Rattle.parser.specs.Parser.{parse, bytes, left}
+use Rattle.parser.specs.Parser.{short, parse, bytes, left}
 use Rattle.parser.specs.Call.{partAt}
 use Rattle.event_record.specs.Places.{eventIn, outcomeOfPlaces}
 use Rattle.event_record.specs.declared.Lists.{Lists}
@@ -15,9 +15,13 @@ use Rattle.event_record.specs.declared.PlacesAnswer.the-variants.{At}
 use Rattle.event_from_66.specs.Layout.{bodySize, isTribrid, eventOf, from66}
 
 module _ (primary dependent : ℕ) (s : List ℕ) (at : ℕ) where
+  pub parse-short-preamble : left s at < 136 → parse (from66 primary dependent) s at ≡ short
+  unfolding from66 parse
+  parse-short-preamble t = rw (lt-leb _ _ t)
+
   pub short-preamble : left s at < 136 → ranOut 3 ≡ partAt 3 at (from66 primary dependent) s
-  unfolding partAt from66 parse
-  short-preamble t = rw (lt-leb _ _ t)
+  unfolding partAt
+  short-preamble t = rw (parse-short-preamble t)
 
   module _ (t : 136 ≤ left s at) {size : ℕ} {pre : List ℕ} (hp : pre ≡ bytes s at 136) {isP : Bool} (hq : isP ≡ isPrimary pre) (hs : size ≡ cond isP primary dependent) where
     size-is : size ≡ bodySize (bytes s at 136) primary dependent

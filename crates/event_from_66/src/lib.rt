@@ -4,23 +4,18 @@ ghost use mathlib.Core.Bool.{_&&_, not, cond};
 ghost use Prim.Native.Nat.{_<_};
 ghost use lib.Dec.{eqb};
 ghost use Rattle.parser.specs.Call.{partAt};
-ghost use mathlib.Core.List.{[], _∷_};
-ghost use Rattle.lists.specs.Left.{LeftLists};
-ghost use Rattle.event_record.specs.Event.{outcomeOf};
 ghost use Rattle.event_record.specs.Places.{eventIn, outcomeOfPlaces};
-ghost use Rattle.event_from_66.specs.Layout.{eventOf, from66, readFrom66};
+ghost use Rattle.event_from_66.specs.Layout.{eventOf, from66};
 ghost use Rattle.event_from_66.specs.Internal.{sourceOf};
 use event_coefficients::coefficient_count;
 use event_coefficients::word_place;
 use event_preamble::is_primary;
 use event_reactions::Source;
-use event_record::EventAnswer;
 use event_record::Lists;
 use event_record::Places;
 use event_record::PlacesAnswer;
 use event_window::end_bits;
 use event_window::find_window;
-use event_writer::write_event;
 use reader::remaining;
 use refusal::Part;
 use refusal::Refusal;
@@ -58,7 +53,7 @@ fn judge(bytes: &[u8], body: &[u8], tribrid: bool) -> Lists
 }
 
 // The size of an event's body.
-pub fn body_size(primary: bool, body_primary: u32, body_dependent: u32) -> u64
+fn body_size(primary: bool, body_primary: u32, body_dependent: u32) -> u64
     ensures { λ r. ⌜ (r ≡ cond primary «body_primary» «body_dependent») × (r < 4294967296) ⌝ }
 {
     if primary {
@@ -76,8 +71,8 @@ fn is_tribrid(primary: bool, body_primary: u32, body_dependent: u32) -> bool
     !primary
 }
 
-// The event at a place of the run, found and not handed out.
-fn find_from_66(run: &[u8], at: u64, body_primary: u32, body_dependent: u32) -> PlacesAnswer
+// The event at a place of the run. Nothing is written.
+pub fn find_from_66(run: &[u8], at: u64, body_primary: u32, body_dependent: u32) -> PlacesAnswer
     ensures { λ r. ⌜ outcomeOfPlaces (now (run .entry)) r ≡ partAt 3 at (from66 «body_primary» «body_dependent») (now (run .entry)) ⌝ }
 {
     if 136 <= remaining(run, at) {
@@ -100,24 +95,4 @@ fn find_from_66(run: &[u8], at: u64, body_primary: u32, body_dependent: u32) -> 
         }
     }
     PlacesAnswer::Refused(Refusal::Short(Part::Event))
-}
-
-pub fn read_from_66(
-    run: &[u8],
-    at: u64,
-    body_primary: u32,
-    body_dependent: u32,
-    preamble: &mut [u8],
-    precursors: &mut [u64],
-    energies: &mut [u64],
-    coefficients: &mut [u64],
-) -> EventAnswer
-    ensures { λ r. ⌜ LeftLists (λ c. readFrom66 «body_primary» «body_dependent» c at (now (run .entry)))
-        (now (preamble .entry) ∷ now (precursors .entry) ∷ now (energies .entry) ∷ now (coefficients .entry) ∷ [])
-        (outcomeOf r) (now (preamble .exit) ∷ now (precursors .exit) ∷ now (energies .exit) ∷ now (coefficients .exit) ∷ []) ⌝ }
-{
-    match find_from_66(run, at, body_primary, body_dependent) {
-        PlacesAnswer::Refused(r) => EventAnswer::Refused(r),
-        PlacesAnswer::At(p) => { write_event(run, p, preamble, precursors, energies, coefficients) }
-    }
 }

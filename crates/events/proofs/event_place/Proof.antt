@@ -1,13 +1,13 @@
--- `event_walk::event_place` meets its contract: a turn passes one event (`Passed`).
+-- `events::event_place` meets its contract: a turn passes one event (`Passed`).
 use mathlib.Core.Path.{sym, ap, _∙_}
 use Prim.Native.Nat.{_-_}
 use native.Mathlib.Omega.{arith}
 use denote.Ref.{now}
 use Rattle.refusal.specs.Number.{outcomeOfCount}
-use Rattle.event_walk.proofs.Ends.{Passed, passed-none, passed-more, passed-short, passed-all}
+use Rattle.events.proofs.Ends.{Passed, passed-none, passed-more, passed-short, passed-all}
 use borrow.Author.Needs.{needs}
-use Rattle.event_walk.proofs.event_place.Statement.{statement}
-use Rattle.event_walk.proofs.event_place.Tie as tie
+use Rattle.events.proofs.event_place.Statement.{statement}
+use Rattle.events.proofs.event_place.Tie as tie
 
 abbrev Inv-loop : tie.InvT-loop
 Inv-loop run start k version body-primary body-dependent at₀ i₀ at i = Passed version body-primary body-dependent start k run i at

@@ -15,9 +15,9 @@ use Rattle.event_record.specs.Event.{Event}
 use Rattle.event_before_66.specs.Layout.{before66}
 use Rattle.event_before_66.proofs.Answers.{parse-short-head}
 use Rattle.event_from_66.specs.Layout.{from66}
-use Rattle.event_walk.specs.Walk.{event, eventEnd, eventPlace}
-use Rattle.event_walk.specs.Internal.{endFrom66}
-use Rattle.event_walk.proofs.Ends.{no-preamble, ends, ends-cons}
+use Rattle.event_from_66.proofs.Answers.{parse-short-preamble}
+use Rattle.events.specs.Event.{event, eventEnd, eventPlace}
+use Rattle.events.proofs.Ends.{ends, ends-cons}
 
 module _ (one : Parser Event) (s : List ℕ) where
   endOf : ℕ → Outcome ℕ
@@ -54,9 +54,9 @@ module _ (version primary dependent : ℕ) (s : List ℕ) where
 
   -- after the end of the run there is no event
   pub none-after : (at : ℕ) → length s ≤ at → eventEnd version primary dependent at s ≡ ranOut 3
-  unfolding eventEnd event outcome endFrom66
+  unfolding eventEnd event outcome
   none-after at h = go (leb 66 version)
     where
       go : (b : Bool) → onward 3 (parse (cond b (from66 primary dependent) (before66 version)) s at) (λ _ next. ok next) ≡ ranOut 3
-      go true = sym (no-preamble primary dependent s at (omega arith))
+      go true = rw (parse-short-preamble primary dependent s at (omega arith))
       go false = rw (parse-short-head version s at (omega arith))
