@@ -29,20 +29,28 @@ fn put_code(out: &mut [u8], n: usize, code: Code) -> usize
     }
 }
 
+fn activation_number(activation: Activation) -> u64 {
+    match activation {
+        Activation::None => 0,
+        Activation::HCD => 1,
+        Activation::CID => 2,
+        Activation::ETD => 3,
+        Activation::EThcD => 4,
+        Activation::Unknown(_) => 5,
+    }
+}
+
 // An activation as one field.
 pub(crate) fn put_activation(out: &mut [u8], n: usize, activation: Activation) -> usize
     ensures { λ r. ⌜ r ≤ length (now (out .exit)) ⌝ }
 {
+    let n = answer::number(out, n, activation_number(activation));
     match activation {
-        Activation::None => answer::put(out, n, b" 0"),
-        Activation::HCD => answer::put(out, n, b" 1"),
-        Activation::CID => answer::put(out, n, b" 2"),
-        Activation::ETD => answer::put(out, n, b" 3"),
-        Activation::EThcD => answer::put(out, n, b" 4"),
         Activation::Unknown(byte) => {
-            let n = answer::put(out, n, b" 5:");
+            let n = answer::put(out, n, b":");
             answer::decimal(out, n, byte as u64)
         }
+        _ => n,
     }
 }
 

@@ -1,6 +1,7 @@
 // The fields of a request line. Each ends at a space or at the line's end, and the next one is read from there. One that
 // is malformed or missing ends at NOWHERE, and so do those after it: whether a request's last field ends at the line's
 // end tells whether all is well.
+ghost use mathlib.Core.Logic.{_⊎_};
 ghost use mathlib.Core.Path.{_≡_};
 ghost use Prim.Native.Nat.{_≤_};
 ghost use lib.ListN.{length, take};
@@ -170,6 +171,7 @@ pub fn front(data: &[u8], count: u64) -> &[u8]
 fn elements(field: Field, size: u64) -> Field
     requires { ⌜ 1 ≤ size ⌝ }
     ensures { λ r. ⌜ r .value ≤ 64 ⌝ }
+    ensures { λ r. ⌜ (r .end ≡ 0xffff_ffff_ffff_ffff) ⊎ (r .end ≡ field .end) ⌝ }
 {
     if field.value % size != 0 {
         return nowhere();
@@ -188,6 +190,7 @@ fn elements(field: Field, size: u64) -> Field
 // bytes go to the front of `data`. What stands after them is not used.
 pub fn u64s(line: &[u8], at: usize, data: &mut [u8], out: &mut [u64]) -> Field
     ensures { λ r. ⌜ r .value ≤ 64 ⌝ }
+    ensures { λ r. ⌜ Ends (now (line .entry)) at (r .end) ⌝ }
 {
     let list = elements(bytes(line, at, data), 8);
     reader::copy_u64s(data, 0, 8, list.value, out);
@@ -207,6 +210,7 @@ fn copy_u16s(list: &[u8], out: &mut [u16]) {
 // The same of 16-bit numbers.
 pub fn u16s(line: &[u8], at: usize, data: &mut [u8], out: &mut [u16]) -> Field
     ensures { λ r. ⌜ r .value ≤ 64 ⌝ }
+    ensures { λ r. ⌜ Ends (now (line .entry)) at (r .end) ⌝ }
 {
     let list = elements(bytes(line, at, data), 2);
     copy_u16s(data, out);
