@@ -5,9 +5,6 @@ use Prim.Native.Nat.{ℕ}
 use mathlib.Core.Bool.{true, false}
 use mathlib.Core.List.{List, [], _∷_, _++_}
 use lib.ListN.{replicate}
-use lib.IntN.{pos}
-use lib.Ieee.{Float, fin}
-use Rattle.event_window.specs.declared.Window.the-variants.{Absent, Ends}
 use Rattle.event_coefficients.specs.Coefficients.{wordPlace, coefficientCount}
 
 body : List ℕ
@@ -17,21 +14,18 @@ all-that-fit : coefficientCount body 24 ≡ 8
 unfolding coefficientCount body
 all-that-fit = refl
 
-one : Float
-one = fin false 1 (pos 0)
-
-window-at-64 : wordPlace (record { window = Ends one one; offset = 64 }) 152 false ≡ 80
+window-at-64 : wordPlace 64 152 false ≡ 80
 unfolding wordPlace
 window-at-64 = refl
 
-primary-96 : wordPlace (record { window = Ends one one; offset = 8 }) 96 true ≡ 24
+primary-96 : wordPlace 8 96 true ≡ 24
 unfolding wordPlace
 primary-96 = refl
 
-dependent-96 : wordPlace (record { window = Ends one one; offset = 8 }) 96 false ≡ 32
+dependent-96 : wordPlace 8 96 false ≡ 32
 unfolding wordPlace
 dependent-96 = refl
 
-no-window : wordPlace (record { window = Absent; offset = 0 }) 40 true ≡ 0
+no-window : wordPlace 0 40 true ≡ 0
 unfolding wordPlace
 no-window = refl

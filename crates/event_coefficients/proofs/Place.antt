@@ -1,24 +1,31 @@
 -- The count word's place, by the tests that decide it.
 use mathlib.Core.Path.{_≡_}
-use Prim.Native.Nat.{ℕ, _-_}
-use mathlib.Core.Bool.{Bool, true, false, _&&_}
+use Prim.Native.Nat.{ℕ, _+_, _-_, _≤_}
+use native.Mathlib.Omega.{arith}
+use mathlib.Core.Bool.{Bool, true, false, _&&_, cond}
 use lib.Dec.{eqb}
-use lib.Ieee.{Float}
 use borrow.Author.Tests.{eq-eqb, ne-eqb}
-use Rattle.event_window.specs.declared.Window.{Window}
-use Rattle.event_window.specs.declared.Window.the-variants.{Absent, Ends}
-use Rattle.event_coefficients.specs.Coefficients.{wordAfter}
+use Rattle.event_coefficients.specs.Coefficients.{wordPlace}
 
-module _ (w : Window) (offset size : ℕ) (primary : Bool) where
-  pub no-window : w ≡ Absent → size - 64 ≡ wordAfter w offset size primary
-  no-window e = rw e
+module _ (window size : ℕ) (primary : Bool) where
+  pub window-at-64 : window ≡ 64 → 80 ≡ wordPlace window size primary
+  unfolding wordPlace
+  window-at-64 o = rw (eq-eqb window 64 o)
 
-  module _ {low high : Float} (e : w ≡ Ends low high) where
-    pub window-at-64 : offset ≡ 64 → 80 ≡ wordAfter w offset size primary
-    window-at-64 o = rw (e, eq-eqb offset 64 o)
+  pub primary-at-8 : window ≡ 8 → eqb size 96 ≡ true → primary ≡ true → 24 ≡ wordPlace window size primary
+  unfolding wordPlace
+  primary-at-8 o b p = rw (o, b, p)
 
-    pub primary-at-8 : offset ≡ 8 → eqb size 96 ≡ true → primary ≡ true → 24 ≡ wordAfter w offset size primary
-    primary-at-8 o b p = rw (e, o, b, p)
+  pub elsewhere : (window ≡ 64 → ⊥) → (eqb window 8 && eqb size 96 && primary) ≡ false → size - 64 ≡ wordPlace window size primary
+  unfolding wordPlace
+  elsewhere n f = rw (ne-eqb window 64 n, f)
 
-    pub elsewhere : (offset ≡ 64 → ⊥) → (eqb offset 8 && eqb size 96 && primary) ≡ false → size - 64 ≡ wordAfter w offset size primary
-    elsewhere n f = rw (e, ne-eqb offset 64 n, f)
+  -- the word is near the body
+  pub word-most : wordPlace window size primary ≤ size + 80
+  unfolding wordPlace
+  word-most = go (eqb window 64) (eqb window 8 && eqb size 96 && primary)
+    where
+      go : (a b : Bool) → cond a 80 (cond b 24 (size - 64)) ≤ size + 80
+      go true b = omega arith
+      go false true = omega arith
+      go false false = omega arith

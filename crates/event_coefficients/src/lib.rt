@@ -1,33 +1,24 @@
 // The calibration coefficients in the body of a scan event from version 66 on (`read_coefficients` of scan_event.rs).
 ghost use mathlib.Core.Path.{_≡_};
 ghost use Rattle.event_coefficients.specs.Coefficients.{wordPlace, coefficientCount};
-use event_window::Found;
-use event_window::Window;
 use reader::remaining;
 use reader::saturating_sub;
 use reader::u32_at;
 
-// Where the count word stands in a body of `size` bytes whose window was found, or not.
-pub fn word_place(found: Found, size: u64, primary: bool) -> u64
-    ensures { λ r. ⌜ r ≡ wordPlace found size primary ⌝ }
+// Where the count word stands in a body of `size` bytes whose window is at `window`, or absent, which counts as 0.
+pub fn word_place(window: u64, size: u64, primary: bool) -> u64
+    ensures { λ r. ⌜ r ≡ wordPlace window size primary ⌝ }
 {
-    let window = found.window;
-    let offset = found.offset;
-    match window {
-        Window::Absent => saturating_sub(size, 64),
-        Window::Ends(_, _) => {
-            if offset == 64 {
-                return 80;
-            }
-            if offset == 8 && size == 96 && primary {
-                return 24;
-            }
-            saturating_sub(size, 64)
-        }
+    if window == 64 {
+        return 80;
     }
+    if window == 8 && size == 96 && primary {
+        return 24;
+    }
+    saturating_sub(size, 64)
 }
 
-// How many coefficients stand after the count word. A count beyond the body costs no loop.
+// How many coefficients stand after the count word. A stored count beyond the body is cut to what fits.
 pub fn coefficient_count(body: &[u8], place: u64) -> u64
     ensures { λ r. ⌜ r ≡ coefficientCount (now (body .entry)) place ⌝ }
 {

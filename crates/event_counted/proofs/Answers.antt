@@ -1,80 +1,102 @@
--- What stands at a place that holds a counted event, by the tests that decide it.
-use mathlib.Core.Path.{_≡_, refl}
-use Prim.Native.Nat.{ℕ, _+_, _≤_, _<_}
+-- What finding a counted event answers, by the tests that decide it, and what is read of it.
+use mathlib.Core.Path.{_≡_, refl, sym, _∙_}
+use mathlib.Core.Logic.{⊎-elim}
+use Prim.Native.Nat.{ℕ, _+_, _-_, _≤_, _<_}
 use native.Mathlib.Omega.{arith}
 use mathlib.Core.Bool.{Bool, true, false, cond}
 use mathlib.Core.List.{List, []}
+use lib.ListN.{length}
 use borrow.Author.Tests.{le-leb, lt-leb}
 use Rattle.refusal.specs.Outcome.{Outcome, ok, refused, ranOut, onOk, andThen}
-use Rattle.parser.specs.Parser.{Parsed, short, parsed, parse, bytes, littleEndian, left}
-use Rattle.parser.specs.Call.{onward, outcome}
+use Rattle.lists.proofs.Cases.{le-or-lt}
+use Rattle.parser.specs.Parser.{bytes, wordAt, left}
 use Rattle.event_preamble.specs.Settings.{isPrimary}
-use Rattle.event_record.specs.Event.{Event, eventIfFits}
-use Rattle.event_record.specs.Places.{eventIn, outcomeOfPlaces}
+use Rattle.event_record.specs.Event.{eventIfFits}
+use Rattle.event_record.specs.Places.{eventIn, withLists, placesOf, outcomeOfPlaces}
 use Rattle.event_record.specs.declared.Lists.{Lists}
+use Rattle.event_record.specs.declared.Places.{Places}
 use Rattle.event_record.specs.declared.PlacesAnswer.the-variants.{At}
+use Rattle.event_record.specs.declared.ScanEvent.{ScanEvent}
+use Rattle.event_record.proofs.Holding.{there}
+use Rattle.event_record.proofs.Bodies.{no-preamble, no-body, both-there, again}
 use Rattle.event_writer.proofs.Reading.{thenIfFits}
-use Rattle.event_counted.specs.Layout.{judgeRecords, kept, countedEvent, bodyEvent, counted, findCounted, readCounted}
+use Rattle.event_counted.specs.Layout.{judgeRecords, keptCount, listsCounted, judgeBody, readCounted}
+use Rattle.event_counted.specs.Internal.{findCounted}
 
 module _ (size : ℕ) (s : List ℕ) (at : ℕ) where
+  abbrev finds : List ℕ × List ℕ → ℕ → Outcome Places
+  finds parts next = onOk (λ lists. placesOf at (withLists (parts .0) (parts .1) lists) next) (judgeBody (at + 136) (parts .0) (parts .1))
+
+  abbrev reads : List ℕ → List ℕ × List ℕ → ℕ → Outcome (ScanEvent × List (List ℕ))
+  reads capacities parts next = andThen (judgeBody (at + 136) (parts .0) (parts .1)) (λ lists. eventIfFits capacities (eventIn (parts .0) (parts .1) lists) next)
+
   pub short-preamble : left s at < 136 → ranOut 3 ≡ findCounted size at s
-  unfolding findCounted outcome counted parse
-  short-preamble t = rw (lt-leb _ _ t)
+  unfolding findCounted
+  short-preamble t = no-preamble (λ _. size) finds s at t
 
   module _ (t : 136 ≤ left s at) where
     pub short-body : left s (at + 136) < size → ranOut 3 ≡ findCounted size at s
-    unfolding findCounted outcome counted parse
-    short-body u = rw (le-leb _ _ t, lt-leb _ _ u)
+    unfolding findCounted
+    short-body u = no-body (λ _. size) finds s at t refl refl u
 
-    module _ (u : size ≤ left s (at + 136)) where
-      whole : onOk (λ e. (e, at + 136 + size)) (bodyEvent (at + 136) (bytes s at 136) (bytes s (at + 136) size)) ≡ findCounted size at s
-      unfolding findCounted outcome counted parse
-      whole = rw (le-leb _ _ t, le-leb _ _ u)
+    module _ (u : size ≤ left s (at + 136)) {preamble body : List ℕ} (hp : preamble ≡ bytes s at 136) (hb : body ≡ bytes s (at + 136) size) where
+      whole : finds (preamble, body) (at + 136 + size) ≡ findCounted size at s
+      unfolding findCounted
+      whole = both-there (λ _. size) finds s at t hp refl u hb
 
-      -- the same, from what the code has in hand
-      module _ {pre body : List ℕ} (hp : pre ≡ bytes s at 136) (hb : body ≡ bytes s (at + 136) size) where
-        pub wrong : {n : ℕ} {carries : List ℕ} → refused n carries ≡ bodyEvent (at + 136) pre body → refused n carries ≡ findCounted size at s
-        wrong h = rw (← whole, ← hp, ← hb, ← h)
+      pub wrong : {n : ℕ} {carries : List ℕ} → refused n carries ≡ judgeBody (at + 136) preamble body → refused n carries ≡ findCounted size at s
+      wrong h = rw (← whole, ← h)
 
-        pub found : (j : Lists) → ok (eventIn pre body j) ≡ bodyEvent (at + 136) pre body
-            → outcomeOfPlaces s (At (record { preamble = at; «preamble_len» = 136; body = at + 136; «body_len» = size; lists = j; next = at + 136 + size })) ≡ findCounted size at s
-        found j h = rw (← whole, ← hp, ← hb, ← h)
+      pub found : {lists : Lists} → ok lists ≡ judgeBody (at + 136) preamble body
+          → outcomeOfPlaces (At (record { preamble = at; «preamble_len» = 136; body = at + 136; «body_len» = size; lists = lists; next = at + 136 + size })) ≡ findCounted size at s
+      unfolding eventIn
+      found h =
+          let len : length preamble ≡ 136 = rw hp (there s at 136 t) in
+          let rest : at + 136 + size - (at + 136) ≡ size = omega arith in
+          rw (← whole, ← h, len, rest)
 
--- the reader is what was found, and then the room
-pub counted-then : (size : ℕ) (capacities : List ℕ) (at : ℕ) (s : List ℕ) → thenIfFits (findCounted size at s) capacities ≡ readCounted size capacities at s
-unfolding findCounted readCounted outcome
-counted-then size capacities at s = go (parse (counted size) s at)
-  where
-    same : (o : Outcome Event) (next : ℕ) → thenIfFits (onOk (λ e. (e, next)) o) capacities ≡ andThen o (λ e. eventIfFits capacities e next)
-    same (ok e) next = refl
-    same (refused n carries) next = refl
-
-    go : (o : Parsed (List ℕ × List ℕ)) → thenIfFits (onward 3 o (λ parts next. onOk (λ e. (e, next)) (bodyEvent (at + 136) (parts .0) (parts .1)))) capacities
-        ≡ onward 3 o (λ parts next. andThen (bodyEvent (at + 136) (parts .0) (parts .1)) (λ e. eventIfFits capacities e next))
-    go short = refl
-    go (parsed parts next) = same (bodyEvent (at + 136) (parts .0) (parts .1)) next
+  -- the reader is what was found, and then the room
+  pub counted-then : (capacities : List ℕ) → thenIfFits s (findCounted size at s) capacities ≡ readCounted size capacities at s
+  unfolding findCounted readCounted
+  counted-then capacities =
+      ⊎-elim
+      (λ (t : 136 ≤ left s at).
+      ⊎-elim
+      (λ (u : size ≤ left s (at + 136)).
+      rw (← both-there (λ _. size) finds s at t refl refl u refl, ← both-there (λ _. size) (reads capacities) s at t refl refl u refl)
+      (go t (judgeBody (at + 136) (bytes s at 136) (bytes s (at + 136) size))))
+      (λ (u : left s (at + 136) < size). rw (← no-body (λ _. size) finds s at t refl refl u, ← no-body (λ _. size) (reads capacities) s at t refl refl u))
+      (le-or-lt size (left s (at + 136))))
+      (λ (t : left s at < 136). rw (← no-preamble (λ _. size) finds s at t, ← no-preamble (λ _. size) (reads capacities) s at t))
+      (le-or-lt 136 (left s at))
+    where
+      go : 136 ≤ left s at → (o : Outcome Lists)
+          → thenIfFits s (onOk (λ lists. placesOf at (withLists (bytes s at 136) (bytes s (at + 136) size) lists) (at + 136 + size)) o) capacities
+          ≡ andThen o (λ lists. eventIfFits capacities (eventIn (bytes s at 136) (bytes s (at + 136) size) lists) (at + 136 + size))
+      go t (ok lists) = rw (again s at size lists t)
+      go t (refused n carries) = refl
 
 module _ (start : ℕ) (preamble body : List ℕ) where
-  pub no-count : left body 0 < 4 → refused 4 [] ≡ bodyEvent start preamble body
-  unfolding bodyEvent
+  pub no-count : left body 0 < 4 → refused 4 [] ≡ judgeBody start preamble body
+  unfolding judgeBody
   no-count t = rw (lt-leb _ _ t)
 
-  by-records : 4 ≤ left body 0 → (count : ℕ) → count ≡ littleEndian (bytes body 0 4)
-      → andThen (judgeRecords start body (kept preamble count)) (λ _. ok (countedEvent preamble body count)) ≡ bodyEvent start preamble body
-  unfolding bodyEvent
+  by-records : 4 ≤ left body 0 → (count : ℕ) → count ≡ wordAt body 0 4
+      → andThen (judgeRecords start body (keptCount preamble count)) (λ _. ok (listsCounted preamble body count)) ≡ judgeBody start preamble body
+  unfolding judgeBody
   by-records t count e = rw (le-leb _ _ t, ← e)
 
-  module _ (t : 4 ≤ left body 0) (count : ℕ) (e : count ≡ littleEndian (bytes body 0 4)) {n : ℕ} (k : n ≡ kept preamble count) where
+  module _ (t : 4 ≤ left body 0) (count : ℕ) (e : count ≡ wordAt body 0 4) {n : ℕ} (k : n ≡ keptCount preamble count) where
     pub wrong-record : {number : ℕ} {carries : List ℕ} → refused number carries ≡ judgeRecords start body n
-        → refused number carries ≡ bodyEvent start preamble body
+        → refused number carries ≡ judgeBody start preamble body
     wrong-record h = rw (← k, ← h) at (by-records t count e)
 
-    pub sound-records : ok tt ≡ judgeRecords start body n → ok (countedEvent preamble body count) ≡ bodyEvent start preamble body
+    pub sound-records : ok tt ≡ judgeRecords start body n → ok (listsCounted preamble body count) ≡ judgeBody start preamble body
     sound-records h = rw (← k, ← h) at (by-records t count e)
 
 kept-by : (b : Bool) (count : ℕ) → cond b 0 count ≤ count
 kept-by true count = omega arith
 kept-by false count = omega arith
 
-pub kept-most : (preamble : List ℕ) (count : ℕ) → kept preamble count ≤ count
+pub kept-most : (preamble : List ℕ) (count : ℕ) → keptCount preamble count ≤ count
 kept-most preamble count = kept-by (isPrimary preamble) count

@@ -1,12 +1,13 @@
 -- Answers of the private functions. No public promise cites it.
-use Prim.Native.Nat.{ℕ}
+use Prim.Native.Nat.{ℕ, _+_}
 use mathlib.Core.List.{List}
-use Rattle.refusal.specs.Outcome.{Outcome, ok}
+use Rattle.refusal.specs.Outcome.{Outcome, ok, onOk}
 use Rattle.refusal.specs.Number.{outcomeOfRefusal}
-use Rattle.event_reactions.specs.declared.Source.{Source}
-use Rattle.event_reactions.specs.declared.Source.the-variants.{Every}
-use Rattle.event_record.specs.Event.{Event}
-use Rattle.event_record.specs.Places.{eventIn}
+use Rattle.parser.specs.Call.{outcome, single}
+use Rattle.event_record.specs.Places.{withLists, placesOf, preambleAndBody}
+use Rattle.event_record.specs.declared.Lists.{Lists}
+use Rattle.event_record.specs.declared.Places.{Places}
+use Rattle.event_counted.specs.Layout.{judgeBody}
 use Rattle.event_counted.specs.declared.Records.{Records}
 use Rattle.event_counted.specs.declared.Records.the-variants.{Sound, Refused}
 use Rattle.event_counted.specs.declared.BodyAnswer.{BodyAnswer}
@@ -16,10 +17,12 @@ abbrev pub outcomeOfRecords : Records → Outcome (Unit {0})
 outcomeOfRecords Sound = ok tt
 outcomeOfRecords (Refused r) = outcomeOfRefusal r
 
-abbrev pub sourceOf : ℕ → Source
-sourceOf n = Every 4 56 n
+abbrev pub outcomeOfBody : BodyAnswer → Outcome Lists
+outcomeOfBody (body.Holds lists) = ok lists
+outcomeOfBody (body.Refused r) = outcomeOfRefusal r
 
--- what a body holds
-abbrev pub outcomeOfBody : List ℕ → List ℕ → BodyAnswer → Outcome Event
-outcomeOfBody preamble bytes (body.Holds j) = ok (eventIn preamble bytes j)
-outcomeOfBody preamble bytes (body.Refused r) = outcomeOfRefusal r
+-- what `find_counted` answers
+unfoldable pub findCounted : ℕ → ℕ → List ℕ → Outcome Places
+findCounted size at run =
+    outcome (single 3 at (preambleAndBody (λ _. size)) (λ parts next.
+    onOk (λ lists. placesOf at (withLists (parts .0) (parts .1) lists) next) (judgeBody (at + 136) (parts .0) (parts .1)))) run

@@ -4,9 +4,9 @@ ghost use Prim.Native.Nat.{_+_, _^_, _<_};
 ghost use mathlib.Core.List.{[], _∷_};
 ghost use Rattle.lists.specs.Left.{LeftLists};
 ghost use Rattle.event_record.specs.Event.{outcomeOf};
-ghost use Rattle.event_record.specs.Places.{eventIn, outcomeOfPlaces};
-ghost use Rattle.event_counted.specs.Layout.{judgeRecord, judgeRecords, kept, countedEvent, bodyEvent, findCounted, readCounted};
-ghost use Rattle.event_counted.specs.Internal.{outcomeOfRecords, sourceOf, outcomeOfBody};
+ghost use Rattle.event_record.specs.Places.{outcomeOfPlaces};
+ghost use Rattle.event_counted.specs.Layout.{judgeRecord, judgeRecords, keptCount, listsCounted, judgeBody, readCounted};
+ghost use Rattle.event_counted.specs.Internal.{outcomeOfRecords, outcomeOfBody, findCounted};
 use event_coefficients::coefficient_count;
 use event_preamble::is_primary;
 use event_reactions::Source;
@@ -15,7 +15,6 @@ use event_record::EventAnswer;
 use event_record::Lists;
 use event_record::Places;
 use event_record::PlacesAnswer;
-use event_window::end_bits;
 use event_window::plausible_window;
 use event_writer::write_event;
 use reader::remaining;
@@ -52,8 +51,7 @@ fn judge_record(start: u64, body: &[u8], i: u64) -> Records
     Records::Refused(Refusal::BodyTooShort)
 }
 
-// The first n records. It ends at the first that passes the body, so a stored count beyond the body costs no more turns
-// than the body has records.
+// The first n records. The loop ends at the first that passes the body, whatever count is stored.
 fn judge_records(start: u64, body: &[u8], n: u64) -> Records
     requires { ⌜ (start < 2 ^ 63 + 2 ^ 32) × (n < 2 ^ 32) ⌝ }
     ensures { λ r. ⌜ outcomeOfRecords r ≡ judgeRecords start (now (body .entry)) n ⌝ }
@@ -70,7 +68,7 @@ fn judge_records(start: u64, body: &[u8], n: u64) -> Records
 
 // A primary event's records are neither judged nor kept.
 fn kept_count(bytes: &[u8], count: u64) -> u64
-    ensures { λ r. ⌜ r ≡ kept (now (bytes .entry)) count ⌝ }
+    ensures { λ r. ⌜ r ≡ keptCount (now (bytes .entry)) count ⌝ }
 {
     if is_primary(bytes) {
         return 0;
@@ -78,32 +76,22 @@ fn kept_count(bytes: &[u8], count: u64) -> u64
     count
 }
 
-// Where the reactions stand, whose records are sound: precursors from 4 on, 56 bytes apart.
-fn reactions_of(bytes: &[u8], count: u64) -> Source
-    ensures { λ r. ⌜ r ≡ sourceOf (kept (now (bytes .entry)) count) ⌝ }
-{
-    let n = kept_count(bytes, count);
-    Source::Every {
-        from: 4,
-        stride: 56,
-        count: n,
-    }
-}
-
-// Where the lists of a body stand, and its window.
-fn judge(bytes: &[u8], body: &[u8], count: u64) -> Lists
+// Where the lists of a body stand whose records are sound, and its window.
+fn lists_of(bytes: &[u8], body: &[u8], count: u64) -> Lists
     requires { ⌜ count < 2 ^ 32 ⌝ }
-    ensures { λ r. ⌜ eventIn (now (bytes .entry)) (now (body .entry)) r ≡ countedEvent (now (bytes .entry)) (now (body .entry)) count ⌝ }
+    ensures { λ r. ⌜ r ≡ listsCounted (now (bytes .entry)) (now (body .entry)) count ⌝ }
 {
     let place = count * 56 + 8;
-    let window = plausible_window(body, place);
+    let reactions = Source::Every {
+        from: 4,
+        stride: 56,
+        count: kept_count(bytes, count),
+    };
     Lists {
-        reactions: reactions_of(bytes, count),
-        coefficients_at: place + 16 + 4,
+        reactions,
+        coefficients_at: place + 20,
         coefficients: coefficient_count(body, place + 16),
-        window,
-        low: end_bits(window, body, place),
-        high: end_bits(window, body, place + 8),
+        window: plausible_window(body, place),
     }
 }
 
@@ -115,7 +103,7 @@ enum BodyAnswer {
 
 fn judge_body(start: u64, bytes: &[u8], body: &[u8]) -> BodyAnswer
     requires { ⌜ start < 2 ^ 63 + 2 ^ 32 ⌝ }
-    ensures { λ r. ⌜ outcomeOfBody (now (bytes .entry)) (now (body .entry)) r ≡ bodyEvent start (now (bytes .entry)) (now (body .entry)) ⌝ }
+    ensures { λ r. ⌜ outcomeOfBody r ≡ judgeBody start (now (bytes .entry)) (now (body .entry)) ⌝ }
 {
     if 4 <= remaining(body, 0) {
         let count = u32_at(body, 0) as u64;
@@ -124,16 +112,16 @@ fn judge_body(start: u64, bytes: &[u8], body: &[u8]) -> BodyAnswer
                 return BodyAnswer::Refused(r);
             }
             Records::Sound => {
-                return BodyAnswer::Holds(judge(bytes, body, count));
+                return BodyAnswer::Holds(lists_of(bytes, body, count));
             }
         }
     }
     BodyAnswer::Refused(Refusal::BodyTooShort)
 }
 
-// The event at a place of the run, found and not handed out.
+// The event at a place of the run. Nothing is written.
 fn find_counted(run: &[u8], at: u64, body_size: u32) -> PlacesAnswer
-    ensures { λ r. ⌜ outcomeOfPlaces (now (run .entry)) r ≡ findCounted «body_size» at (now (run .entry)) ⌝ }
+    ensures { λ r. ⌜ outcomeOfPlaces r ≡ findCounted «body_size» at (now (run .entry)) ⌝ }
 {
     if 136 <= remaining(run, at) {
         let from = at as usize;

@@ -1,46 +1,62 @@
--- What stands at a place from version 66 on, by the tests that decide it.
-use mathlib.Core.Path.{_≡_}
-use Prim.Native.Nat.{ℕ, _+_, _≤_, _<_}
+-- What finding an event from version 66 on answers, by the tests that decide it, and that it is the event which is read.
+use mathlib.Core.Path.{_≡_, refl, sym, _∙_}
+use Prim.Native.Nat.{ℕ, _+_, _-_, _≤_, _<_}
+use native.Mathlib.Omega.{arith}
 use mathlib.Core.Bool.{Bool, _&&_, not, cond}
 use mathlib.Core.List.{List}
 use lib.Dec.{eqb}
-use Rattle.event_preamble.specs.Settings.{isPrimary}
-use borrow.Author.Tests.{le-leb, lt-leb}
-use Rattle.refusal.specs.Outcome.{ok, ranOut}
+use lib.ListN.{length}
+use borrow.Author.Tests.{lt-leb}
+use Rattle.refusal.specs.Outcome.{Outcome, ok, ranOut}
 use Rattle.parser.specs.Parser.{short, parse, bytes, left}
-use Rattle.parser.specs.Call.{partAt}
-use Rattle.event_record.specs.Places.{eventIn, outcomeOfPlaces}
+use Rattle.parser.specs.Call.{outcome, single}
+use Rattle.parser.proofs.Answered.{made-part}
+use Rattle.event_preamble.specs.Settings.{isPrimary}
+use Rattle.event_record.specs.Event.{Event}
+use Rattle.event_record.specs.Places.{eventIn, withLists, placesOf, findBy, outcomeOfPlaces, preambleAndBody}
 use Rattle.event_record.specs.declared.Lists.{Lists}
+use Rattle.event_record.specs.declared.Places.{Places}
 use Rattle.event_record.specs.declared.PlacesAnswer.the-variants.{At}
-use Rattle.event_from_66.specs.Layout.{bodySize, isTribrid, eventOf, from66}
+use Rattle.event_record.proofs.Holding.{Holds, there}
+use Rattle.event_record.proofs.Bodies.{no-preamble, no-body, both-there, body-holds}
+use Rattle.event_from_66.specs.Layout.{bodySize, isTribrid, listsFrom66, from66}
 
-module _ (primary dependent : ℕ) (s : List ℕ) (at : ℕ) where
-  pub parse-short-preamble : left s at < 136 → parse (from66 primary dependent) s at ≡ short
-  unfolding from66 parse
-  parse-short-preamble t = rw (lt-leb _ _ t)
+module _ (primary dependent : ℕ) where
+  pub from66-holds : Holds (from66 primary dependent)
+  unfolding from66
+  from66-holds = body-holds (bodySize primary dependent) (λ preamble body. listsFrom66 preamble body (isTribrid primary dependent preamble))
 
-  pub short-preamble : left s at < 136 → ranOut 3 ≡ partAt 3 at (from66 primary dependent) s
-  unfolding partAt
-  short-preamble t = rw (parse-short-preamble t)
+  module _ (s : List ℕ) (at : ℕ) where
+    pub parse-short-preamble : left s at < 136 → parse (from66 primary dependent) s at ≡ short
+    unfolding from66 preambleAndBody parse
+    parse-short-preamble t = rw (lt-leb _ _ t)
 
-  module _ (t : 136 ≤ left s at) {size : ℕ} {pre : List ℕ} (hp : pre ≡ bytes s at 136) {isP : Bool} (hq : isP ≡ isPrimary pre) (hs : size ≡ cond isP primary dependent) where
-    size-is : size ≡ bodySize (bytes s at 136) primary dependent
-    size-is = rw (← hp, ← hq) hs
+    abbrev described : List ℕ × List ℕ → Event × Lists
+    described parts = withLists (parts .0) (parts .1) (listsFrom66 (parts .0) (parts .1) (isTribrid primary dependent (parts .0)))
 
-    pub short-body : left s (at + 136) < size → ranOut 3 ≡ partAt 3 at (from66 primary dependent) s
-    unfolding partAt from66 parse
-    short-body u = rw (le-leb _ _ t, ← size-is, lt-leb _ _ u)
+    abbrev answers : List ℕ × List ℕ → ℕ → Outcome Places
+    answers parts next = ok (placesOf at (described parts) next)
 
-    whole : size ≤ left s (at + 136)
-        → ok (eventOf (bytes s at 136) (bytes s (at + 136) size) (isTribrid (bytes s at 136) primary dependent), at + 136 + size) ≡ partAt 3 at (from66 primary dependent) s
-    unfolding partAt from66 parse
-    whole u = rw (le-leb _ _ t, ← size-is, le-leb _ _ u)
+    by-parts : outcome (single 3 at (preambleAndBody (bodySize primary dependent)) answers) s ≡ findBy (from66 primary dependent) at s
+    unfolding findBy from66
+    by-parts = sym (made-part 3 at (preambleAndBody (bodySize primary dependent)) described (λ v next. ok (placesOf at v next)) answers (λ _ _. refl) s)
 
-    -- the places that are answered, from what the code has in hand
-    pub found : {body : List ℕ} {isT : Bool} (j : Lists) → body ≡ bytes s (at + 136) size → isT ≡ (not (eqb primary dependent) && not isP) → size ≤ left s (at + 136)
-        → eventIn pre body j ≡ eventOf pre body isT
-        → outcomeOfPlaces s (At (record { preamble = at; «preamble_len» = 136; body = at + 136; «body_len» = size; lists = j; next = at + 136 + size })) ≡ partAt 3 at (from66 primary dependent) s
-    found j hb ht u e =
-        let same : eventIn (bytes s at 136) (bytes s (at + 136) size) j ≡ eventOf (bytes s at 136) (bytes s (at + 136) size) (isTribrid (bytes s at 136) primary dependent) =
-        rw (hb, ht, hq, hp) at e in
-        rw same (whole u)
+    pub short-preamble : left s at < 136 → ranOut 3 ≡ findBy (from66 primary dependent) at s
+    short-preamble t = no-preamble (bodySize primary dependent) answers s at t ∙ by-parts
+
+    module _ (t : 136 ≤ left s at) {preamble : List ℕ} {size : ℕ} (hp : preamble ≡ bytes s at 136) {isP : Bool} (hq : isP ≡ isPrimary preamble) (hs : size ≡ cond isP primary dependent) where
+      size-is : size ≡ bodySize primary dependent preamble
+      size-is = rw (← hq) hs
+
+      pub short-body : left s (at + 136) < size → ranOut 3 ≡ findBy (from66 primary dependent) at s
+      short-body u = no-body (bodySize primary dependent) answers s at t hp size-is u ∙ by-parts
+
+      -- the places that are answered, from what the code has in hand
+      pub found : {body : List ℕ} {isT : Bool} {lists : Lists} → body ≡ bytes s (at + 136) size → isT ≡ (not (eqb primary dependent) && not isP) → size ≤ left s (at + 136)
+          → lists ≡ listsFrom66 preamble body isT
+          → outcomeOfPlaces (At (record { preamble = at; «preamble_len» = 136; body = at + 136; «body_len» = size; lists = lists; next = at + 136 + size })) ≡ findBy (from66 primary dependent) at s
+      unfolding eventIn
+      found hb ht u e =
+          let len : length preamble ≡ 136 = rw hp (there s at 136 t) in
+          let rest : at + 136 + size - (at + 136) ≡ size = omega arith in
+          rw (len, rest, ← hq, ← ht, ← e) at (both-there (bodySize primary dependent) answers s at t hp size-is u hb) ∙ by-parts

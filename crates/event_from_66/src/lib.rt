@@ -3,10 +3,9 @@ ghost use mathlib.Core.Path.{_≡_};
 ghost use mathlib.Core.Bool.{_&&_, not, cond};
 ghost use Prim.Native.Nat.{_<_};
 ghost use lib.Dec.{eqb};
-ghost use Rattle.parser.specs.Call.{partAt};
-ghost use Rattle.event_record.specs.Places.{eventIn, outcomeOfPlaces};
-ghost use Rattle.event_from_66.specs.Layout.{eventOf, from66};
-ghost use Rattle.event_from_66.specs.Internal.{sourceOf};
+ghost use Rattle.event_reactions.specs.declared.Source.the-variants.{Every, Sought};
+ghost use Rattle.event_record.specs.Places.{findBy, outcomeOfPlaces};
+ghost use Rattle.event_from_66.specs.Layout.{sought, listsFrom66, from66};
 use event_coefficients::coefficient_count;
 use event_coefficients::word_place;
 use event_preamble::is_primary;
@@ -14,7 +13,6 @@ use event_reactions::Source;
 use event_record::Lists;
 use event_record::Places;
 use event_record::PlacesAnswer;
-use event_window::end_bits;
 use event_window::find_window;
 use reader::remaining;
 use refusal::Part;
@@ -22,7 +20,7 @@ use refusal::Refusal;
 
 // Where the reactions of an event stand. A primary event has none.
 fn reactions_of(bytes: &[u8], tribrid: bool) -> Source
-    ensures { λ r. ⌜ r ≡ sourceOf (now (bytes .entry)) tribrid ⌝ }
+    ensures { λ r. ⌜ r ≡ cond (sought (now (bytes .entry))) (Sought tribrid) (Every 0 0 0) ⌝ }
 {
     if is_primary(bytes) {
         return Source::Every {
@@ -35,20 +33,16 @@ fn reactions_of(bytes: &[u8], tribrid: bool) -> Source
 }
 
 // Where the lists of a body stand, and its window.
-fn judge(bytes: &[u8], body: &[u8], tribrid: bool) -> Lists
-    ensures { λ r. ⌜ eventIn (now (bytes .entry)) (now (body .entry)) r ≡ eventOf (now (bytes .entry)) (now (body .entry)) tribrid ⌝ }
+fn lists_of(bytes: &[u8], body: &[u8], tribrid: bool) -> Lists
+    ensures { λ r. ⌜ r ≡ listsFrom66 (now (bytes .entry)) (now (body .entry)) tribrid ⌝ }
 {
-    let found = find_window(body, tribrid);
-    let window = found.window;
-    let offset = found.offset;
-    let word = word_place(found, body.len() as u64, is_primary(bytes));
+    let window = find_window(body, tribrid);
+    let word = word_place(window.offset, body.len() as u64, is_primary(bytes));
     Lists {
         reactions: reactions_of(bytes, tribrid),
         coefficients_at: word + 4,
         coefficients: coefficient_count(body, word),
         window,
-        low: end_bits(window, body, offset),
-        high: end_bits(window, body, offset + 8),
     }
 }
 
@@ -73,7 +67,7 @@ fn is_tribrid(primary: bool, body_primary: u32, body_dependent: u32) -> bool
 
 // The event at a place of the run. Nothing is written.
 pub fn find_from_66(run: &[u8], at: u64, body_primary: u32, body_dependent: u32) -> PlacesAnswer
-    ensures { λ r. ⌜ outcomeOfPlaces (now (run .entry)) r ≡ partAt 3 at (from66 «body_primary» «body_dependent») (now (run .entry)) ⌝ }
+    ensures { λ r. ⌜ outcomeOfPlaces r ≡ findBy (from66 «body_primary» «body_dependent») at (now (run .entry)) ⌝ }
 {
     if 136 <= remaining(run, at) {
         let from = at as usize;
@@ -83,7 +77,7 @@ pub fn find_from_66(run: &[u8], at: u64, body_primary: u32, body_dependent: u32)
         if size <= remaining(run, at + 136) {
             let to = middle + size as usize;
             let tribrid = is_tribrid(primary, body_primary, body_dependent);
-            let lists = judge(&run[from..middle], &run[middle..to], tribrid);
+            let lists = lists_of(&run[from..middle], &run[middle..to], tribrid);
             return PlacesAnswer::At(Places {
                 preamble: at,
                 preamble_len: 136,

@@ -8,12 +8,12 @@ use native.Mathlib.Omega.{arith}
 use borrow.Author.Tests.{le-leb, lt-leb}
 use lib.ListN.{length}
 use Rattle.lists.specs.Written.{each, fitting}
+use Rattle.lists.specs.Left.{firsts, seconds}
 use Rattle.lists.proofs.Laws.{each-same, map-each}
 use Rattle.lists.proofs.Cases.{leb-cases}
-use Rattle.parser.specs.Parser.{bytes, littleEndian, wordAt}
+use Rattle.parser.specs.Parser.{bytes, littleEndian}
 use Rattle.reader.proofs.Words.{le-shifted}
-use Rattle.event_reactions.specs.Reactions.{Reaction, kept, largest, records, hasUncounted, uncounted, orElse, reactionsIn, precursors, energies}
-use Rattle.event_reactions.specs.Source.{inSource}
+use Rattle.event_reactions.specs.Reactions.{Reaction, reactionAt, kept, largest, records, hasUncounted, uncounted, orIfEmpty, reactionsIn, inSource}
 use Rattle.event_reactions.specs.declared.Source.the-variants.{Every}
 
 -- the records that are read lie within the body
@@ -27,19 +27,19 @@ unfolding reactionsIn
 too-short true body h = rw (lt-leb _ _ h)
 too-short false body h = rw (lt-leb _ _ h)
 
-or-else-some : (rs ss : List Reaction) → (length rs ≡ 0 → ⊥) → orElse rs ss ≡ rs
-or-else-some [] ss h = absurd (h refl)
-or-else-some (r ∷ rs) ss h = refl
+or-if-empty-some : (rs ss : List Reaction) → (length rs ≡ 0 → ⊥) → orIfEmpty rs ss ≡ rs
+or-if-empty-some [] ss h = absurd (h refl)
+or-if-empty-some (r ∷ rs) ss h = refl
 
-or-else-none : (rs ss : List Reaction) → length rs ≡ 0 → orElse rs ss ≡ ss
-or-else-none [] ss h = refl
-or-else-none (r ∷ rs) ss h = absurd (omega arith)
+or-if-empty-none : (rs ss : List Reaction) → length rs ≡ 0 → orIfEmpty rs ss ≡ ss
+or-if-empty-none [] ss h = refl
+or-if-empty-none (r ∷ rs) ss h = absurd (omega arith)
 
-or-else-most : (rs ss : List Reaction) → length rs ≤ length (orElse rs ss)
-or-else-most [] ss = omega arith
-or-else-most (r ∷ rs) ss = omega arith
+or-if-empty-most : (rs ss : List Reaction) → length rs ≤ length (orIfEmpty rs ss)
+or-if-empty-most [] ss = omega arith
+or-if-empty-most (r ∷ rs) ss = omega arith
 
-or-nothing : (rs : List Reaction) → orElse rs [] ≡ rs
+or-nothing : (rs : List Reaction) → orIfEmpty rs [] ≡ rs
 or-nothing [] = refl
 or-nothing (r ∷ rs) = refl
 
@@ -56,15 +56,15 @@ module _ (body : List ℕ) (h : 8 ≤ length body) {tribrid : Bool} {n : ℕ} wh
   module _ (t : tribrid ≡ false) (e : n ≡ records body 4 8) where
     pub of-counted : (length (kept body 8 n) ≡ 0 → ⊥) → reactionsIn tribrid body ≡ kept body 8 n
     unfolding reactionsIn
-    of-counted some = rw (t, le-leb _ _ h, ← e) (or-else-some _ _ some)
+    of-counted some = rw (t, le-leb _ _ h, ← e) (or-if-empty-some _ _ some)
 
     pub counted-within : length (kept body 8 n) ≤ length (reactionsIn tribrid body)
     unfolding reactionsIn
-    counted-within = rw (t, le-leb _ _ h, ← e) (or-else-most (kept body 8 n) (uncounted body))
+    counted-within = rw (t, le-leb _ _ h, ← e) (or-if-empty-most (kept body 8 n) (uncounted body))
 
-    pub of-uncounted : length (kept body 8 n) ≡ 0 → hasUncounted body ≡ true → reactionsIn tribrid body ≡ (wordAt body 4 8, wordAt body 20 8) ∷ []
+    pub of-uncounted : length (kept body 8 n) ≡ 0 → hasUncounted body ≡ true → reactionsIn tribrid body ≡ reactionAt body 4 ∷ []
     unfolding reactionsIn uncounted
-    of-uncounted none u = rw (t, le-leb _ _ h, ← e, u) (or-else-none (kept body 8 n) _ none)
+    of-uncounted none u = rw (t, le-leb _ _ h, ← e, u) (or-if-empty-none (kept body 8 n) _ none)
 
     pub of-neither : hasUncounted body ≡ false → reactionsIn tribrid body ≡ kept body 8 n
     unfolding reactionsIn uncounted
@@ -72,13 +72,13 @@ module _ (body : List ℕ) (h : 8 ≤ length body) {tribrid : Bool} {n : ℕ} wh
 
 -- ---- records of which none is left out
 module _ (body : List ℕ) (from stride n : ℕ) (xs : List ℕ) {xs′ : List ℕ} where
-  pub every-precursor : xs′ ≡ fitting (each (λ i. littleEndian (bytes body (from + i * stride) 8)) n) xs → xs′ ≡ fitting (precursors (inSource body (Every from stride n))) xs
+  pub every-precursor : xs′ ≡ fitting (each (λ i. littleEndian (bytes body (from + i * stride) 8)) n) xs → xs′ ≡ fitting (firsts (inSource body (Every from stride n))) xs
   unfolding inSource
   every-precursor e = e ∙ rw map-each
 
   -- the energies' first place stops at the largest, which is after the body too
   pub every-energy : length body < 2 ^ 64 → {at : ℕ} → at ≡ min (from + 16) (2 ^ 64 - 1)
-      → xs′ ≡ fitting (each (λ i. littleEndian (bytes body (at + i * stride) 8)) n) xs → xs′ ≡ fitting (energies (inSource body (Every from stride n))) xs
+      → xs′ ≡ fitting (each (λ i. littleEndian (bytes body (at + i * stride) 8)) n) xs → xs′ ≡ fitting (seconds (inSource body (Every from stride n))) xs
   unfolding inSource
   every-energy few h e =
       let place : (i : ℕ) → from + 16 + i * stride ≡ from + i * stride + 16 = λ i. omega arith in

@@ -3,11 +3,9 @@
 ghost use mathlib.Core.Path.{_≡_};
 ghost use Prim.Native.Nat.{_*_, _≤_, max};
 ghost use lib.ListN.{length};
-ghost use Rattle.lists.specs.Left.{pairsIfFit, LeftPairs};
+ghost use Rattle.lists.specs.Left.{firsts, seconds, pairsIfFit, LeftPairs};
 ghost use Rattle.lists.specs.Written.{over, fitting};
-ghost use Rattle.event_reactions.specs.Reactions.{acceptable, kept, records, plausible, hasUncounted, reactionsIn};
-ghost use Rattle.event_reactions.specs.Reactions.{precursors as precursorsOf, energies as energiesOf};
-ghost use Rattle.event_reactions.specs.Source.{inSource};
+ghost use Rattle.event_reactions.specs.Reactions.{acceptable, kept, records, plausiblePrecursor, hasUncounted, reactionsIn, inSource};
 use float_bits::f64_of_bits;
 use float_bits::is_finite64;
 use lists::holds;
@@ -36,8 +34,8 @@ pub fn acceptable(bits: u64) -> bool
 }
 
 // A precursor without a count word before it: between 0 and 50,000, both excluded.
-fn plausible(bits: u64) -> bool
-    ensures { λ r. ⌜ r ≡ plausible bits ⌝ }
+fn plausible_precursor(bits: u64) -> bool
+    ensures { λ r. ⌜ r ≡ plausiblePrecursor bits ⌝ }
 {
     let x = f64_of_bits(bits);
     is_finite64(bits) && 0.0 < x && x < 50000.0
@@ -47,7 +45,7 @@ fn plausible(bits: u64) -> bool
 fn has_uncounted(body: &[u8]) -> bool
     ensures { λ r. ⌜ r ≡ hasUncounted (now (body .entry)) ⌝ }
 {
-    36 <= body.len() && plausible(u64_at(body, 4))
+    36 <= body.len() && plausible_precursor(u64_at(body, 4))
 }
 
 fn larger(a: u64, b: u64) -> u64
@@ -56,7 +54,7 @@ fn larger(a: u64, b: u64) -> u64
     if a <= b { b } else { a }
 }
 
-// How many records are read. A stored count above the largest gives none, so a count of 2^32 - 1 costs no loop.
+// How many records are read. A stored count above the largest gives none.
 fn records(body: &[u8], at: u64, from: u64) -> u64
     requires { ⌜ from ≤ 8 ⌝ }
     ensures { λ r. ⌜ r ≡ records (now (body .entry)) at from ⌝ }
@@ -92,8 +90,8 @@ fn write_kept(body: &[u8], from: u64, n: u64, precursors: &mut [u64], energies: 
     requires { ⌜ length (kept (now body) from n) ≤ length (now precursors) ⌝ }
     requires { ⌜ length (kept (now body) from n) ≤ length (now energies) ⌝ }
     ensures { λ r. ⌜ r ≡ length (kept (now (body .entry)) from n) ⌝ }
-    ensures { λ _. ⌜ now (precursors .exit) ≡ over (precursorsOf (kept (now (body .entry)) from n)) (now (precursors .entry)) ⌝ }
-    ensures { λ _. ⌜ now (energies .exit) ≡ over (energiesOf (kept (now (body .entry)) from n)) (now (energies .entry)) ⌝ }
+    ensures { λ _. ⌜ now (precursors .exit) ≡ over (firsts (kept (now (body .entry)) from n)) (now (precursors .entry)) ⌝ }
+    ensures { λ _. ⌜ now (energies .exit) ≡ over (seconds (kept (now (body .entry)) from n)) (now (energies .entry)) ⌝ }
 {
     let mut count: u64 = 0;
     let mut i: u64 = 0;
@@ -133,8 +131,8 @@ fn count_sought(body: &[u8], tribrid: bool) -> u64
 fn write_sought(body: &[u8], tribrid: bool, precursors: &mut [u64], energies: &mut [u64])
     requires { ⌜ length (reactionsIn tribrid (now body)) ≤ length (now precursors) ⌝ }
     requires { ⌜ length (reactionsIn tribrid (now body)) ≤ length (now energies) ⌝ }
-    ensures { λ _. ⌜ now (precursors .exit) ≡ over (precursorsOf (reactionsIn tribrid (now (body .entry)))) (now (precursors .entry)) ⌝ }
-    ensures { λ _. ⌜ now (energies .exit) ≡ over (energiesOf (reactionsIn tribrid (now (body .entry)))) (now (energies .entry)) ⌝ }
+    ensures { λ _. ⌜ now (precursors .exit) ≡ over (firsts (reactionsIn tribrid (now (body .entry)))) (now (precursors .entry)) ⌝ }
+    ensures { λ _. ⌜ now (energies .exit) ≡ over (seconds (reactionsIn tribrid (now (body .entry)))) (now (energies .entry)) ⌝ }
 {
     if body.len() < 8 {
         return;
@@ -167,8 +165,8 @@ pub fn count_reactions(body: &[u8], source: Source) -> u64
 fn write_source(body: &[u8], source: Source, precursors: &mut [u64], energies: &mut [u64])
     requires { ⌜ length (inSource (now body) source) ≤ length (now precursors) ⌝ }
     requires { ⌜ length (inSource (now body) source) ≤ length (now energies) ⌝ }
-    ensures { λ _. ⌜ now (precursors .exit) ≡ fitting (precursorsOf (inSource (now (body .entry)) source)) (now (precursors .entry)) ⌝ }
-    ensures { λ _. ⌜ now (energies .exit) ≡ fitting (energiesOf (inSource (now (body .entry)) source)) (now (energies .entry)) ⌝ }
+    ensures { λ _. ⌜ now (precursors .exit) ≡ fitting (firsts (inSource (now (body .entry)) source)) (now (precursors .entry)) ⌝ }
+    ensures { λ _. ⌜ now (energies .exit) ≡ fitting (seconds (inSource (now (body .entry)) source)) (now (energies .entry)) ⌝ }
 {
     match source {
         Source::Every {

@@ -2,3 +2,5 @@ pub mod Tests
 pub mod Precursors
 pub mod OneAnswer
 pub mod LongerBytes
+pub mod Holding
+pub mod Bodies

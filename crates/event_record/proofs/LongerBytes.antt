@@ -1,15 +1,20 @@
--- The terms' sentences for a reader of events, from the laws of its call.
+-- The terms' sentences for readers and finders of events, from the laws of their calls.
 use Prim.Native.Nat.{ℕ, _^_, _<_}
 use mathlib.Core.Path.{_≡_}
 use mathlib.Core.List.{List}
-use Rattle.refusal.specs.Outcome.{Outcome}
+use Rattle.refusal.specs.Outcome.{Outcome, ok}
 use Rattle.lists.specs.Left.{fits, lengths, overAll, listsIfFit, LeftLists}
+use Rattle.parser.specs.Parser.{Parser}
 use Rattle.parser.specs.LongerBytes.{OnLongerBytes, PrefixProperty, Names, Completes}
 use Rattle.parser.proofs.Calls.{NotTruncated, not-truncated-room}
+use Rattle.parser.proofs.Completion.{Bounded}
 use Rattle.parser.proofs.OnLongerBytes.{one-part, left-longer}
+use Rattle.parser.proofs.Records.{OnePart, single-part}
 use Rattle.event_record.specs.Event.{Event, eventLists, eventIfFits, outcomeOf}
 use Rattle.event_record.specs.declared.ScanEvent.{ScanEvent}
-use Rattle.event_record.proofs.OneAnswer.{event-answer-one}
+use Rattle.event_record.specs.Places.{placesOf, findBy, outcomeOfPlaces}
+use Rattle.event_record.specs.declared.Lists.{Lists}
+use Rattle.event_record.proofs.OneAnswer.{event-answer-one, places-answer-one}
 
 pub event-not-truncated : (capacities : List ℕ) (e : Event) (next : ℕ) → NotTruncated (eventIfFits capacities e next)
 unfolding eventIfFits listsIfFit
@@ -20,3 +25,7 @@ pub reader-longer : (call : List ℕ → List ℕ → Outcome (ScanEvent × List
 reader-longer call at xs prefix names completes =
     left-longer outcomeOf event-answer-one (call (lengths xs)) prefix (λ q. q ≡ 3) (λ _ _. at < 2 ^ 62) names (one-part 3 at (call (lengths xs)) names completes)
     (λ (v : ScanEvent × List (List ℕ)). v .0) (λ (v : ScanEvent × List (List ℕ)). overAll (v .1)) xs
+
+pub finder-part : (layout : Parser (Event × Lists)) (at : ℕ) → Bounded (2 ^ 62) (2 ^ 61) layout → OnePart outcomeOfPlaces 3 at (findBy layout at)
+unfolding findBy
+finder-part layout at bounded = single-part 3 at layout (λ v next. ok (placesOf at v next)) outcomeOfPlaces places-answer-one bounded (λ _ _. tt)

@@ -12,7 +12,7 @@ use Rattle.event_record.specs.Activation.{above, withPrecursor}
 module _ (ps : List ℕ) (i : ℕ) where
   pub counted : i < length ps → above (getD ps i 0) ≡ true → withPrecursor (drop i ps) ≡ 1 + withPrecursor (drop (i + 1) ps)
   unfolding withPrecursor
-  counted h e = rw (add-one, drop-cons ps i 0 h, e)
+  counted h e = rw (add-one, drop-cons ps i 0 h, e) (omega arith)
 
   pub passed : i < length ps → above (getD ps i 0) ≡ false → withPrecursor (drop i ps) ≡ withPrecursor (drop (i + 1) ps)
   unfolding withPrecursor

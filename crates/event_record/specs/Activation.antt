@@ -1,11 +1,12 @@
 -- The activation of an event (`ScanEvent::activation` and `has_supplemental_reaction` of scan_event.rs), from its preamble and
 -- the bits of its reactions' precursors.
-use Prim.Native.Nat.{ℕ, _+_}
-use mathlib.Core.Bool.{Bool, true, false, _&&_, cond}
-use mathlib.Core.List.{List, [], _∷_}
+use Prim.Native.Nat.{ℕ}
+use mathlib.Core.Bool.{Bool, true, false, _&&_}
+use mathlib.Core.List.{List}
 use lib.Dec.{leb, eqb}
 use lib.Ieee.{binary64, ofBits, lt}
 use lib.ListN.{length}
+use Rattle.lists.specs.Filter.{filter}
 use Rattle.codes.specs.declared.Activation.{Activation}
 use Rattle.codes.specs.declared.Activation.the-variants.{None, HCD, CID, ETD, EThcD, Unknown}
 use Rattle.codes.specs.declared.analyzer.Analyzer.the-variants.{FTMS}
@@ -20,8 +21,7 @@ above bits = lt zeroF (ofBits binary64 bits)
 
 -- how many reactions have one
 unfoldable pub withPrecursor : List ℕ → ℕ
-withPrecursor [] = 0
-withPrecursor (p ∷ ps) = cond (above p) 1 0 + withPrecursor ps
+withPrecursor precursors = length (filter above precursors)
 
 -- an MS2 event of the Orbitrap (FTMS) with two or more reactions of which exactly one has a precursor
 abbrev pub supplemental : List ℕ → List ℕ → Bool

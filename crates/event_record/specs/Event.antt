@@ -5,7 +5,7 @@ use lib.ListN.{length}
 use Rattle.refusal.specs.Outcome.{Outcome, ok}
 use Rattle.refusal.specs.Number.{outcomeOfRefusal}
 use Rattle.lists.specs.Left.{firsts, seconds, listsIfFit}
-use Rattle.event_window.specs.declared.Window.{Window}
+use Rattle.event_window.specs.declared.FoundWindow.{FoundWindow}
 use Rattle.event_reactions.specs.Reactions.{Reaction}
 use Rattle.event_preamble.specs.Settings.{settings}
 use Rattle.event_record.specs.Activation.{eventActivation}
@@ -13,13 +13,11 @@ use Rattle.event_record.specs.declared.ScanEvent.{ScanEvent}
 use Rattle.event_record.specs.declared.EventAnswer.{EventAnswer}
 use Rattle.event_record.specs.declared.EventAnswer.the-variants as answer
 
--- an event as it was read. The window's ends are also kept as bits, which are 0 where it is absent
+-- an event as it was read
 pub record Event : Type 0 where
   pub preamble : List ℕ
   pub reactions : List Reaction
-  pub window : Window
-  pub low : ℕ
-  pub high : ℕ
+  pub window : FoundWindow
   pub coefficients : List ℕ
 
 -- the answer's record
@@ -29,9 +27,9 @@ describe e next =
       «preamble_len» = length (e .preamble);
       reactions = length (e .reactions);
       coefficients = length (e .coefficients);
-      window = e .window;
-      «low_mz» = e .low;
-      «high_mz» = e .high;
+      window = e .window .window;
+      «low_mz» = e .window .low;
+      «high_mz» = e .window .high;
       preamble = settings (e .preamble);
       activation = eventActivation (e .preamble) (firsts (e .reactions));
       next = next;

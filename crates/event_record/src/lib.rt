@@ -8,6 +8,7 @@ use codes::ms_power;
 use event_preamble::ScanEventPreamble;
 use event_preamble::byte_at;
 use event_reactions::Source;
+use event_window::FoundWindow;
 use event_window::Window;
 use float_bits::f64_of_bits;
 use refusal::Refusal;
@@ -32,14 +33,12 @@ pub enum EventAnswer {
     Refused(Refusal),
 }
 
-// Where the lists of an event stand in its body, and what else was read of it.
+// Where the lists of an event stand in its body, and its window.
 pub struct Lists {
     pub reactions: Source,
     pub coefficients_at: u64,
     pub coefficients: u64,
-    pub window: Window,
-    pub low: u64,
-    pub high: u64,
+    pub window: FoundWindow,
 }
 
 // An event that was found: where its preamble and its body stand in the run, and the place after it.

@@ -1,21 +1,49 @@
--- The candidate search, candidate by candidate.
-use mathlib.Core.Path.{_≡_, refl, sym, _∙_}
-use Prim.Native.Nat.{ℕ}
+-- The window at one place, and the search, candidate by candidate.
+use mathlib.Core.Path.{_≡_, sym, _∙_}
+use mathlib.Core.Logic.{⊎-elim}
+use mathlib.Core.Bool.{true, false}
+use Prim.Native.Nat.{ℕ, _+_, _≤_, _<_}
+use native.Mathlib.Omega.{arith}
 use mathlib.Core.List.{List, [], _∷_}
-use lib.Ieee.{Float}
-use Rattle.event_window.specs.Window.{windowAt, search}
+use lib.Ieee.{Float, binary64, ofBits}
+use borrow.Author.Tests.{le-leb, lt-leb}
+use Rattle.lists.proofs.Cases.{bool-cases}
+use Rattle.parser.specs.Parser.{left, f64At, wordAt}
+use Rattle.event_window.specs.Window.{plausibleEnds, windowOf, hasWindow, noWindow, firstWindow}
+use Rattle.event_window.specs.Internal.{firstOf}
 use Rattle.event_window.specs.declared.Window.{Window}
 use Rattle.event_window.specs.declared.Window.the-variants.{Absent, Ends}
+use Rattle.event_window.specs.declared.FoundWindow.{FoundWindow}
 
-module _ (body : List ℕ) (off : ℕ) (offs : List ℕ) {w : Window} (e : w ≡ windowAt body off) where
-  pub here : {low high : Float} → w ≡ Ends low high → record { window = w; offset = off } ≡ search body (off ∷ offs)
-  unfolding search
-  here h = let a = sym e ∙ h in rw (a, h)
+module _ (body : List ℕ) (off : ℕ) where
+  pub too-few : left body off < 16 → noWindow ≡ firstWindow body (off ∷ [])
+  unfolding firstWindow
+  too-few t = rw (lt-leb _ _ t)
 
-  pub later : w ≡ Absent → search body (off ∷ offs) ≡ search body offs
-  unfolding search
-  later h = let a = sym e ∙ h in rw a
+  -- 16 bytes stand there: w is the window that their ends make
+  module _ (t : 16 ≤ left body off) {lo hi : ℕ} (el : lo ≡ wordAt body off 8) (eh : hi ≡ wordAt body (off + 8) 8) {w : Window} (ew : w ≡ windowOf (ofBits binary64 lo) (ofBits binary64 hi)) where
+    same : w ≡ windowOf (f64At body off) (f64At body (off + 8))
+    same = rw (← el, ← eh) ew
 
-pub none : (body : List ℕ) → record { window = Absent; offset = 0 } ≡ search body []
-unfolding search
-none body = refl
+    pub stands : {low high : Float} → w ≡ Ends low high → record { window = w; low = lo; high = hi; offset = off } ≡ firstWindow body (off ∷ [])
+    unfolding firstWindow
+    stands h =
+        ⊎-elim
+        (λ (p : plausibleEnds (f64At body off) (f64At body (off + 8)) ≡ true). let e : w ≡ Ends (f64At body off) (f64At body (off + 8)) = same ∙ rw p in rw (e, le-leb _ _ t, p, el, eh))
+        (λ (p : plausibleEnds (f64At body off) (f64At body (off + 8)) ≡ false). let e : Absent ≡ w = sym (same ∙ rw p) in let c : _≡_ {A = ℕ} 0 1 = cc in absurd (omega arith))
+        (bool-cases (plausibleEnds (f64At body off) (f64At body (off + 8))))
+
+    pub implausible : w ≡ Absent → noWindow ≡ firstWindow body (off ∷ [])
+    unfolding firstWindow
+    implausible h =
+        ⊎-elim
+        (λ (p : plausibleEnds (f64At body off) (f64At body (off + 8)) ≡ true). let e : Ends (f64At body off) (f64At body (off + 8)) ≡ w = sym (same ∙ rw p) in let c : _≡_ {A = ℕ} 0 1 = cc in absurd (omega arith))
+        (λ (p : plausibleEnds (f64At body off) (f64At body (off + 8)) ≡ false). rw (le-leb _ _ t, p))
+        (bool-cases (plausibleEnds (f64At body off) (f64At body (off + 8))))
+
+  -- the first of two, where the second is the rest of the search
+  pub one-more : (offs : List ℕ) {first rest both : FoundWindow} → first ≡ firstWindow body (off ∷ []) → rest ≡ firstWindow body offs → both ≡ firstOf first rest
+      → both ≡ firstWindow body (off ∷ offs)
+  unfolding firstWindow
+  one-more offs e f h =
+      rw (e, f) at h ∙ ⊎-elim (λ (t : hasWindow body off ≡ true). rw t) (λ (t : hasWindow body off ≡ false). rw t) (bool-cases (hasWindow body off))

@@ -1,51 +1,44 @@
 -- The acquisition window in a body of version 66: which two numbers make one, and where it is looked for.
 use Prim.Native.Nat.{ℕ, _+_, _-_}
 use mathlib.Core.Bool.{Bool, true, false, _&&_, cond}
-use mathlib.Core.List.{List, [], _∷_}
-use lib.IntN.{pos}
-use lib.Ieee.{Float, binary64, le, round, ofInt, ofBits}
+use mathlib.Core.List.{List, [], _∷_, map}
+use lib.Ieee.{Float, le}
 use lib.Ieee.Scale.{finite}
 use lib.ListN.{length}
 use lib.Dec.{leb}
-use Rattle.parser.specs.Parser.{bytes, left, f64At, wordAt}
-use Rattle.parser.specs.Parser.{littleEndian}
+use Rattle.float_bits.specs.Numbers.{ratio, largestMass}
+use Rattle.lists.specs.Filter.{filter, firstOr}
+use Rattle.parser.specs.Parser.{left, f64At, wordAt}
 use Rattle.event_window.specs.declared.Window.{Window}
 use Rattle.event_window.specs.declared.Window.the-variants.{Absent, Ends}
-use Rattle.event_window.specs.declared.Found.{Found}
-use Rattle.float_bits.specs.Numbers.{ratio, largestMass}
+use Rattle.event_window.specs.declared.FoundWindow.{FoundWindow}
 
 -- the f64 nearest to 1 / 10
 unfoldable pub lowest : Float
 lowest = ratio 1 10
 
-abbrev pub plausible : Float → Float → Bool
-plausible low high = finite low && finite high && le lowest low && le low high && le high largestMass
+abbrev pub plausibleEnds : Float → Float → Bool
+plausibleEnds low high = finite low && finite high && le lowest low && le low high && le high largestMass
 
 abbrev pub windowOf : Float → Float → Window
-windowOf low high = cond (plausible low high) (Ends low high) Absent
+windowOf low high = cond (plausibleEnds low high) (Ends low high) Absent
 
--- `plausible_window`: 16 bytes must stand there
-unfoldable pub windowAt : List ℕ → ℕ → Window
-windowAt body off = cond (leb 16 (left body off)) (windowOf (f64At body off) (f64At body (off + 8))) Absent
+-- whether a window stands at a place: 16 bytes, and their ends are plausible
+abbrev pub hasWindow : List ℕ → ℕ → Bool
+hasWindow body off = leb 16 (left body off) && plausibleEnds (f64At body off) (f64At body (off + 8))
 
--- the first candidate that has a window
-abbrev pub orElse : Window → ℕ → Found → Found
-orElse Absent off rest = rest
-orElse (Ends low high) off rest = record { window = Ends low high; offset = off }
+-- the window there, its ends as floats and as bits
+abbrev pub windowAt : List ℕ → ℕ → FoundWindow
+windowAt body off = record { window = Ends (f64At body off) (f64At body (off + 8)); low = wordAt body off 8; high = wordAt body (off + 8) 8; offset = off }
 
-unfoldable pub search : List ℕ → List ℕ → Found
-search body [] = record { window = Absent; offset = 0 }
-search body (off ∷ offs) = orElse (windowAt body off) off (search body offs)
+abbrev pub noWindow : FoundWindow
+noWindow = record { window = Absent; low = 0; high = 0; offset = 0 }
 
--- the candidates of a body of this size; differences stop at 0
+-- the window at the first of these places that has one
+unfoldable pub firstWindow : List ℕ → List ℕ → FoundWindow
+firstWindow body places = firstOr noWindow (map (windowAt body) (filter (hasWindow body) places))
+
+-- the candidates in a body of this size; differences stop at 0
 abbrev pub candidates : Bool → ℕ → List ℕ
 candidates true size = (size - 88) ∷ 8 ∷ 64 ∷ 128 ∷ []
 candidates false size = 64 ∷ 8 ∷ 128 ∷ (size - 80) ∷ []
-
-unfoldable pub found : List ℕ → Bool → Found
-found body tribrid = search body (candidates tribrid (length body))
-
--- the bits of an end of the window at a place of the body, 0 where it is absent
-abbrev pub endBits : Window → List ℕ → ℕ → ℕ
-endBits Absent body place = 0
-endBits (Ends low high) body place = wordAt body place 8

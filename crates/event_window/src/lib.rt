@@ -2,7 +2,9 @@
 // `read_v66` in scan_event.rs).
 ghost use mathlib.Core.Path.{_≡_};
 ghost use mathlib.Core.List.{_∷_, []};
-ghost use Rattle.event_window.specs.Window.{windowOf, windowAt, search, found, endBits};
+ghost use lib.ListN.{length};
+ghost use Rattle.event_window.specs.Window.{windowOf, firstWindow, candidates};
+ghost use Rattle.event_window.specs.Internal.{firstOf};
 use float_bits::f64_of_bits;
 use float_bits::is_finite;
 use reader::remaining;
@@ -14,9 +16,11 @@ pub enum Window {
     Ends(f64, f64),
 }
 
-// A window and its place in the body, which is 0 where it is absent.
-pub struct Found {
+// A window, the bits of its ends, and its place in the body; 0 where it is absent.
+pub struct FoundWindow {
     pub window: Window,
+    pub low: u64,
+    pub high: u64,
     pub offset: u64,
 }
 
@@ -32,74 +36,62 @@ pub fn window_of(low: f64, high: f64) -> Window
 }
 
 // The window at a place of the body.
-pub fn plausible_window(body: &[u8], off: u64) -> Window
-    ensures { λ r. ⌜ r ≡ windowAt (now (body .entry)) off ⌝ }
+pub fn plausible_window(body: &[u8], off: u64) -> FoundWindow
+    ensures { λ r. ⌜ r ≡ firstWindow (now (body .entry)) (off ∷ []) ⌝ }
 {
     if 16 <= remaining(body, off) {
-        return window_of(
-            f64_of_bits(u64_at(body, off)),
-            f64_of_bits(u64_at(body, off + 8)),
-        );
+        let low = u64_at(body, off);
+        let high = u64_at(body, off + 8);
+        let window = window_of(f64_of_bits(low), f64_of_bits(high));
+        if let Window::Ends(_, _) = window {
+            return FoundWindow {
+                window,
+                low,
+                high,
+                offset: off,
+            };
+        }
     }
-    Window::Absent
-}
-
-// The first of four candidates that has a window.
-fn first_window(body: &[u8], a: u64, b: u64, c: u64, d: u64) -> Found
-    ensures { λ r. ⌜ r ≡ search (now (body .entry)) (a ∷ b ∷ c ∷ d ∷ []) ⌝ }
-{
-    let first = plausible_window(body, a);
-    if let Window::Ends(_, _) = first {
-        return Found {
-            window: first,
-            offset: a,
-        };
-    }
-    let second = plausible_window(body, b);
-    if let Window::Ends(_, _) = second {
-        return Found {
-            window: second,
-            offset: b,
-        };
-    }
-    let third = plausible_window(body, c);
-    if let Window::Ends(_, _) = third {
-        return Found {
-            window: third,
-            offset: c,
-        };
-    }
-    let fourth = plausible_window(body, d);
-    if let Window::Ends(_, _) = fourth {
-        return Found {
-            window: fourth,
-            offset: d,
-        };
-    }
-    Found {
+    FoundWindow {
         window: Window::Absent,
+        low: 0,
+        high: 0,
         offset: 0,
     }
 }
 
+// The first of two that is a window.
+fn first_of(first: FoundWindow, second: FoundWindow) -> FoundWindow
+    ensures { λ r. ⌜ r ≡ firstOf first second ⌝ }
+{
+    let window = first.window;
+    match window {
+        Window::Absent => second,
+        Window::Ends(_, _) => first,
+    }
+}
+
+// The window at the first of four candidates that has one.
+fn first_window(body: &[u8], a: u64, b: u64, c: u64, d: u64) -> FoundWindow
+    ensures { λ r. ⌜ r ≡ firstWindow (now (body .entry)) (a ∷ b ∷ c ∷ d ∷ []) ⌝ }
+{
+    first_of(
+        plausible_window(body, a),
+        first_of(
+            plausible_window(body, b),
+            first_of(plausible_window(body, c), plausible_window(body, d)),
+        ),
+    )
+}
+
 // The window of a body. A tribrid's dependent events have it elsewhere than other instruments.
-pub fn find_window(body: &[u8], tribrid: bool) -> Found
-    ensures { λ r. ⌜ r ≡ found (now (body .entry)) tribrid ⌝ }
+pub fn find_window(body: &[u8], tribrid: bool) -> FoundWindow
+    ensures { λ r. ⌜ r ≡ firstWindow (now (body .entry)) (candidates tribrid (length (now (body .entry)))) ⌝ }
 {
     let size = body.len() as u64;
     if tribrid {
         first_window(body, saturating_sub(size, 88), 8, 64, 128)
     } else {
         first_window(body, 64, 8, 128, saturating_sub(size, 80))
-    }
-}
-
-// The bits of an end of the window at a place of the body, 0 where it is absent.
-pub fn end_bits(window: Window, body: &[u8], place: u64) -> u64
-    ensures { λ r. ⌜ r ≡ endBits window (now (body .entry)) place ⌝ }
-{
-    match window {
-        Window::Absent => 0,
-        Window::Ends(_, _) => u64_at(body, place),
     }
 }

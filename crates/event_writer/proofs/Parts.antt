@@ -1,4 +1,3 @@
--- Parts of a run as bytes of it.
 use mathlib.Core.Path.{_≡_, sym, _∙_}
 use Prim.Native.Nat.{ℕ, _+_, _-_, _^_, _≤_, _<_, min}
 use native.Mathlib.Omega.{arith}
@@ -9,11 +8,7 @@ use lib.Seq.{take-all, take-nil}
 use Rattle.lists.proofs.Cases.{le-or-lt}
 use Rattle.parser.specs.Parser.{bytes}
 
--- a part of a run from a place on, as bytes
-pub part-is : (s : List ℕ) (at n : ℕ) → take (at + n - at) (drop at s) ≡ bytes s at n
-part-is s at n = let e : at + n - at ≡ n = omega arith in rw e
-
--- the same, where both ends of the part stop at the run's end
+-- a part of a run as bytes of it, where both ends of the part stop at the run's end
 module _ (s : List ℕ) (at n : ℕ) (few : length s < 2 ^ 63) {from to sum : ℕ} (ef : from ≡ min at (length s)) (es : sum ≡ min (at + n) (2 ^ 64 - 1)) (et : to ≡ min sum (length s)) where
   pub part-ordered : from ≤ to
   part-ordered = omega arith

@@ -5,16 +5,19 @@ use mathlib.Core.List.{List}
 use Rattle.refusal.specs.Outcome.{Outcome, ok, refused, andThen}
 use Rattle.lists.specs.Left.{LeftLists}
 use Rattle.lists.proofs.Left.{left-refused, left-same}
-use Rattle.event_record.specs.Event.{Event, eventIfFits}
+use Rattle.event_record.specs.Event.{eventIfFits}
+use Rattle.event_record.specs.Places.{eventAt}
+use Rattle.event_record.specs.declared.Places.{Places}
 use Rattle.event_record.specs.declared.ScanEvent.{ScanEvent}
 
-abbrev pub thenIfFits : Outcome (Event × ℕ) → List ℕ → Outcome (ScanEvent × List (List ℕ))
-thenIfFits o capacities = andThen o (λ v. eventIfFits capacities (v .0) (v .1))
+-- the event at places of s that were found, where the slices hold it
+abbrev pub thenIfFits : List ℕ → Outcome Places → List ℕ → Outcome (ScanEvent × List (List ℕ))
+thenIfFits s o capacities = andThen o (λ p. eventIfFits capacities (eventAt s p) (p .next))
 
-module _ {o : Outcome (Event × ℕ)} {xs : List (List ℕ)} where
-  pub read-refused : {n : ℕ} {carries : List ℕ} → refused n carries ≡ o → LeftLists (thenIfFits o) xs (refused n carries) xs
+module _ (s : List ℕ) {o : Outcome Places} {xs : List (List ℕ)} where
+  pub read-refused : {n : ℕ} {carries : List ℕ} → refused n carries ≡ o → LeftLists (thenIfFits s o) xs (refused n carries) xs
   read-refused h = left-refused (rw (← h))
 
-  pub read-found : {e : Event} {next : ℕ} {t : Outcome ScanEvent} {ys : List (List ℕ)} → ok (e, next) ≡ o
-      → LeftLists (λ c. eventIfFits c e next) xs t ys → LeftLists (thenIfFits o) xs t ys
+  pub read-found : {p : Places} {t : Outcome ScanEvent} {ys : List (List ℕ)} → ok p ≡ o
+      → LeftLists (λ c. eventIfFits c (eventAt s p) (p .next)) xs t ys → LeftLists (thenIfFits s o) xs t ys
   read-found h w = left-same (rw (← h)) w

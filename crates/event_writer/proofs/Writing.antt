@@ -13,7 +13,7 @@ use Rattle.lists.proofs.Laws.{fitting-all, length-over, length-each}
 use Rattle.lists.proofs.Left.{fits-true, lists-no-room, lists-written}
 use Rattle.parser.specs.Parser.{bytes, wordAt}
 use Rattle.event_preamble.specs.Settings.{settings}
-use Rattle.event_reactions.specs.Source.{inSource}
+use Rattle.event_reactions.specs.Reactions.{inSource}
 use Rattle.event_reactions.proofs.Count.{length-precursors, all-written}
 use Rattle.event_record.specs.Activation.{eventActivation}
 use Rattle.event_record.specs.Event.{Event, describe, eventLists, eventIfFits}
@@ -86,9 +86,9 @@ module _ (preamble body : List ℕ) (j : Lists) (p q e c : List ℕ) where
             «preamble_len» = length preamble;
             reactions = n;
             coefficients = j .coefficients;
-            window = j .window;
-            «low_mz» = j .low;
-            «high_mz» = j .high;
+            window = j .window .window;
+            «low_mz» = j .window .low;
+            «high_mz» = j .window .high;
             preamble = settings preamble;
             activation = eventActivation preamble (take (n - 0) (drop 0 q′));
             next = next;

@@ -5,7 +5,7 @@ ghost use mathlib.Core.List.{[], _∷_};
 ghost use Prim.Native.Nat.{min};
 ghost use lib.ListN.{length};
 ghost use Rattle.lists.specs.Left.{fits, lengths, overAll, LeftLists};
-ghost use Rattle.event_reactions.specs.Source.{inSource};
+ghost use Rattle.event_reactions.specs.Reactions.{inSource};
 ghost use Rattle.event_record.specs.Event.{eventLists, eventIfFits, outcomeOf};
 ghost use Rattle.event_record.specs.Places.{eventIn, eventAt};
 use event_preamble::decode;
@@ -60,7 +60,8 @@ fn write_parts(
         (outcomeOf r) (now (preamble .exit) ∷ now (precursors .exit) ∷ now (energies .exit) ∷ now (coefficients .exit) ∷ []) ⌝ }
 {
     let reactions = j.reactions;
-    let window = j.window;
+    let found = j.window;
+    let window = found.window;
     let len = bytes.len() as u64;
     let count = count_reactions(body, reactions);
     if holds(
@@ -83,8 +84,8 @@ fn write_parts(
             reactions: count,
             coefficients: j.coefficients,
             window,
-            low_mz: j.low,
-            high_mz: j.high,
+            low_mz: found.low,
+            high_mz: found.high,
             preamble: decode(bytes),
             activation: activation(bytes, &precursors[0..end]),
             next,

@@ -1,39 +1,60 @@
 -- The version's choice, and the walk over k events.
-use mathlib.Core.Path.{_≡_, refl, ap, sym, subst, _∙_}
+use mathlib.Core.Path.{_≡_, refl, sym, subst, _∙_}
 use Prim.Native.Nat.{ℕ, suc, _+_, _-_, _≤_, _<_}
 use native.Mathlib.Nat.{sub-zero}
 use native.Mathlib.Omega.{arith}
+use mathlib.Core.Bool.{Bool, true, false, cond}
 use mathlib.Core.List.{List, _∷_}
+use lib.Dec.{leb}
 use borrow.Author.Tests.{le-leb, lt-leb}
-use Rattle.refusal.specs.Outcome.{Outcome, ok, refused, onOk}
+use Rattle.refusal.specs.Outcome.{Outcome, ok, refused, onOk, andThen}
 use Rattle.parser.specs.Parser.{Parser, Parsed, short, parsed, parse, repeat}
 use Rattle.parser.specs.Call.{onward, outcome, partAt}
 use Rattle.parser.proofs.Prefix.{after}
 use Rattle.parser.proofs.Walk.{parse-repeat}
 use Rattle.parser.proofs.Answered.{found, ran-out}
-use Rattle.event_record.specs.Event.{Event}
+use Rattle.event_record.specs.Event.{Event, eventIfFits}
+use Rattle.event_record.specs.Places.{findBy}
+use Rattle.event_record.specs.declared.Places.{Places}
+use Rattle.event_record.proofs.Holding.{Holds, eventAndNext, found-by, call-by}
+use Rattle.event_writer.proofs.Reading.{thenIfFits}
 use Rattle.event_before_66.specs.Layout.{before66}
+use Rattle.event_before_66.proofs.Answers.{before66-holds}
 use Rattle.event_from_66.specs.Layout.{from66}
-use Rattle.events.specs.Event.{event, eventEnd, eventPlace}
+use Rattle.event_from_66.proofs.Answers.{from66-holds}
+use Rattle.events.specs.Event.{layout, event, readEvent, eventEnd, eventPlace}
 
 -- the version decides the layout
 module _ (version primary dependent at : ℕ) (s : List ℕ) where
-  pub by-from-66 : 66 ≤ version → partAt 3 at (from66 primary dependent) s ≡ partAt 3 at (event version primary dependent) s
-  unfolding event
+  pub by-from-66 : 66 ≤ version → findBy (from66 primary dependent) at s ≡ findBy (layout version primary dependent) at s
+  unfolding layout
   by-from-66 h = rw (le-leb 66 version h)
 
-  pub by-before-66 : version < 66 → partAt 3 at (before66 version) s ≡ partAt 3 at (event version primary dependent) s
-  unfolding event
+  pub by-before-66 : version < 66 → findBy (before66 version) at s ≡ findBy (layout version primary dependent) at s
+  unfolding layout
   by-before-66 h = rw (lt-leb 66 version h)
 
-  -- where an event that was found ends
-  pub end-of : {o : Outcome (Event × ℕ)} → o ≡ partAt 3 at (event version primary dependent) s → onOk (λ (v : Event × ℕ). v .1) o ≡ eventEnd version primary dependent at s
-  unfolding eventEnd outcome partAt
-  end-of h = ap (onOk (λ (v : Event × ℕ). v .1)) h ∙ go (parse (event version primary dependent) s at)
-    where
-      go : (o : Parsed Event) → onOk {A = Event × ℕ} (λ v. v .1) (onward 3 o (λ b next. ok (b, next))) ≡ onward 3 o (λ _ next. ok next)
-      go short = refl
-      go (parsed e next) = refl
+layout-holds : (version primary dependent : ℕ) → Holds (layout version primary dependent)
+unfolding layout
+layout-holds version primary dependent = go (leb 66 version)
+  where
+    go : (b : Bool) → Holds (cond b (from66 primary dependent) (before66 version))
+    go true = from66-holds primary dependent
+    go false = before66-holds version
+
+module _ (version primary dependent at : ℕ) (s : List ℕ) where
+  -- the event at the places that are found is the one that is read
+  pub found-event : onOk (eventAndNext s) (findBy (layout version primary dependent) at s) ≡ partAt 3 at (event version primary dependent) s
+  unfolding event
+  found-event = found-by (layout version primary dependent) (layout-holds version primary dependent) s at
+
+  pub then-read : (capacities : List ℕ) → thenIfFits s (findBy (layout version primary dependent) at s) capacities ≡ readEvent version primary dependent capacities at s
+  unfolding readEvent event
+  then-read capacities = call-by (layout version primary dependent) (layout-holds version primary dependent) s at (eventIfFits capacities)
+
+  pub then-end : {o : Outcome Places} → o ≡ findBy (layout version primary dependent) at s → andThen o (λ p. ok (p .next)) ≡ eventEnd version primary dependent at s
+  unfolding eventEnd event
+  then-end h = rw h (call-by (layout version primary dependent) (layout-holds version primary dependent) s at (λ _ next. ok next))
 
 -- the walk: after i events it stands at `at`
 module _ (p : Parser Event) (s : List ℕ) where

@@ -7,16 +7,16 @@ use mathlib.Core.List.{List, [], _∷_}
 use lib.Dec.{leb}
 use lib.ListN.{length}
 use Rattle.refusal.specs.Outcome.{Outcome, ok, ranOut, andThen}
-use Rattle.parser.specs.Parser.{Parser, Parsed, short, parsed, parse, repeat}
+use Rattle.parser.specs.Parser.{Parser, done, Parsed, short, parsed, parse, repeat}
 use Rattle.parser.specs.Call.{onward, outcome}
-use Rattle.parser.proofs.Prefix.{after}
+use Rattle.parser.proofs.Prefix.{after, parse-bind}
 use Rattle.parser.proofs.Walk.{parse-repeat}
 use Rattle.event_record.specs.Event.{Event}
 use Rattle.event_before_66.specs.Layout.{before66}
 use Rattle.event_before_66.proofs.Answers.{parse-short-head}
 use Rattle.event_from_66.specs.Layout.{from66}
 use Rattle.event_from_66.proofs.Answers.{parse-short-preamble}
-use Rattle.events.specs.Event.{event, eventEnd, eventPlace}
+use Rattle.events.specs.Event.{layout, event, eventEnd, eventPlace}
 use Rattle.events.proofs.Ends.{ends, ends-cons}
 
 module _ (one : Parser Event) (s : List ℕ) where
@@ -54,9 +54,9 @@ module _ (version primary dependent : ℕ) (s : List ℕ) where
 
   -- after the end of the run there is no event
   pub none-after : (at : ℕ) → length s ≤ at → eventEnd version primary dependent at s ≡ ranOut 3
-  unfolding eventEnd event outcome
-  none-after at h = go (leb 66 version)
+  unfolding eventEnd event layout outcome
+  none-after at h = rw (parse-bind (cond (leb 66 version) (from66 primary dependent) (before66 version)) (λ v. done (v .0)) s at, go (leb 66 version))
     where
-      go : (b : Bool) → onward 3 (parse (cond b (from66 primary dependent) (before66 version)) s at) (λ _ next. ok next) ≡ ranOut 3
-      go true = rw (parse-short-preamble primary dependent s at (omega arith))
-      go false = rw (parse-short-head version s at (omega arith))
+      go : (b : Bool) → parse (cond b (from66 primary dependent) (before66 version)) s at ≡ short
+      go true = parse-short-preamble primary dependent s at (omega arith)
+      go false = parse-short-head version s at (omega arith)

@@ -1,19 +1,17 @@
-// Lists the tray on standard input, in the lines of document 01. The texts are made by `tray_lines`, scan by scan. An input
+// Lists the tray on standard input, in the lines of document 01. The texts are made by `listing_tray`, scan by scan. An input
 // that cannot be read is no tray: standard error says what happened.
 ghost use mathlib.Core.Path.{_≡_};
-ghost use Prim.Native.Nat.{_≤_};
-ghost use lib.ListN.{length};
-ghost use Rattle.refusal.specs.Outcome.{andThen};
-ghost use Rattle.refusal.specs.Number.{outcomeOfCount};
-ghost use Rattle.tray.specs.Scan.{eventOf, nextEvent};
-ghost use Rattle.tray.specs.Internal.{placeOrEnd};
+ghost use Prim.Native.Nat.{suc, _≤_, _<_};
+ghost use lib.ListN.{length, drop};
+ghost use Rattle.refusal.specs.Outcome.{ok};
+ghost use Rattle.tray_header.specs.Header.{readTrayHeader};
+ghost use Rattle.listing_tray.specs.Internal.{walkedPlace};
 use libc::STDIN_FILENO;
 use libc::STDOUT_FILENO;
 use listing_tray::list_header;
 use listing_tray::list_scan;
 use refusal::CountAnswer;
-use tray::event_of;
-use tray::next_event;
+use tray_header::TrayHeader;
 use tray_header::TrayHeaderAnswer;
 use tray_header::read_tray_header;
 
@@ -29,61 +27,46 @@ fn print(out: &[u8; 57344], answer: CountAnswer) {
     }
 }
 
-fn print_header(tray: &[u8]) {
+fn print_header(header: TrayHeaderAnswer) {
     let mut out = [0u8; 57344];
-    let answer = list_header(tray, &mut out);
+    let answer = list_header(header, &mut out);
     print(&out, answer);
 }
 
-// An event starts where the one before ends. One that was not found has none after it.
-fn event_after(tray: &[u8], found: CountAnswer) -> CountAnswer
-    ensures { λ r. ⌜ outcomeOfCount r ≡ andThen (outcomeOfCount found) (λ at. nextEvent at (now (tray .entry))) ⌝ }
-{
-    match found {
-        CountAnswer::Refused(r) => CountAnswer::Refused(r),
-        CountAnswer::Count(at) => next_event(tray, at),
-    }
-}
-
-// A place to read an event at. One that was not found is sought after every run: its scan's entry is judged first, and then
-// the events run out.
-fn place_or_end(found: CountAnswer) -> u64
-    ensures { λ r. ⌜ r ≡ placeOrEnd (outcomeOfCount found) ⌝ }
-{
-    match found {
-        CountAnswer::Refused(_) => u64::MAX,
-        CountAnswer::Count(at) => at,
-    }
-}
-
-// Scan k, whose event was sought.
-fn print_scan(tray: &[u8], k: u32, found: CountAnswer)
-    requires { ⌜ outcomeOfCount found ≡ eventOf k (now tray) ⌝ }
+// Scan k, whose event is read at a place of the run. The place for the next one.
+fn print_scan(tray: &[u8], h: TrayHeader, k: u32, at: u64) -> u64
+    requires { ⌜ ok h ≡ readTrayHeader (now tray) ⌝ }
+    requires { ⌜ k < h .scans ⌝ }
+    requires { ⌜ at ≡ walkedPlace h k (drop 32 (now tray)) ⌝ }
+    ensures { λ r. ⌜ r ≡ walkedPlace h (suc k) (drop 32 (now (tray .entry))) ⌝ }
 {
     let mut out = [0u8; 57344];
-    let answer = list_scan(tray, k, place_or_end(found), &mut out);
+    let listed = list_scan(&tray[32..], h, k, at, &mut out);
+    let answer = listed.written;
     print(&out, answer);
+    listed.next
 }
 
-fn print_scans(tray: &[u8]) {
-    let TrayHeaderAnswer::Header(h) = read_tray_header(tray) else {
-        return;
-    };
-    let count = h.scans;
-    let mut found = event_of(tray, 0);
+fn print_scans(tray: &[u8], h: TrayHeader)
+    requires { ⌜ ok h ≡ readTrayHeader (now tray) ⌝ }
+{
+    let mut at = h.events as u64;
     let mut k: u32 = 0;
-    while k < count {
-        print_scan(tray, k, found);
-        found = event_after(tray, found);
+    while k < h.scans {
+        at = print_scan(tray, h, k, at);
         k = k + 1;
     }
 }
 
+// The header is read once.
 fn print_tray(tray: &[u8])
     requires { ⌜ length (now tray) ≤ 24576 ⌝ }
 {
-    print_header(tray);
-    print_scans(tray);
+    let header = read_tray_header(tray);
+    print_header(header);
+    if let TrayHeaderAnswer::Header(h) = header {
+        print_scans(tray, h);
+    }
 }
 
 // A longer tray prints only `L`.

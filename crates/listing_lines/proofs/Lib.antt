@@ -3,3 +3,4 @@ pub mod Digits
 pub mod Listing
 pub mod Room
 pub mod Examples
+pub mod Fields

@@ -5,15 +5,16 @@ use mathlib.Core.List.{List, [], _∷_, _++_}
 use lib.Ieee.{ofBits, toBits, ofInt, round, eq, lt, le}
 use lib.ListN.{replicate}
 use Rattle.lists.specs.Written.{each, over}
+use Rattle.lists.specs.Left.{listsAndPairsIfFit}
 use Rattle.text.specs.Text.{ascii}
-use Rattle.parser.specs.Parser.{parse, repeat}
+use Rattle.parser.specs.Parser.{parse, repeat, counted}
 use Rattle.parser.specs.Call.{outcome}
 use Rattle.event_preamble.specs.Size.{sizeForVersion}
 use Rattle.scan_format.specs.Format.{formatOf}
 use Rattle.scan_index.specs.Entry.{layout}
 use Rattle.event_record.specs.Event.{describe}
-use Rattle.event_before_66.specs.Layout.{head, reaction, middle, tail, before66}
-use Rattle.event_walk.specs.Walk.{event}
+use Rattle.event_before_66.specs.Layout.{reaction, before66}
+use Rattle.events.specs.Event.{layout as eventLayout, event}
 use Rattle.srm_flat_peaks.specs.Flat.{peaksFrom, attempt, attempts, flatPeaks}
 use Rattle.peaks.specs.Peaks.{peak}
 use Rattle.pairs.specs.Pairs.{peakPairs}
@@ -24,8 +25,8 @@ use Rattle.listing_lines.specs.Internal.{decimalBy}
 use Rattle.listing_lines.specs.Lines.{decimal, hexadecimal, trayLine, scanLines}
 use Rattle.tray_header.specs.Header.{header, judged, readHeader}
 use Rattle.tray_data.specs.Data.{scanData, pairs}
-use Rattle.tray_scan.specs.Scan.{handOut, withData}
-use Rattle.tray.specs.Scan.{entryIn, kthEvent, scanIn, scanOf}
+use Rattle.tray_scan.specs.Scan.{entryIn, withData, scanParts, scanIfFits}
+use Rattle.tray.specs.Scan.{headerWith, readScan}
 use Rattle.listing_tray.specs.Listing.{scansText, listing}
 
 -- version 8, flat, no bodies, one scan; index 0, events 72, data 149
@@ -42,5 +43,5 @@ run =
 
 pub worked-case : listing (words ++ run)
     ≡ ascii "T 8 1" ++ 10 ∷ (ascii "S 0 1 0" ++ 10 ∷ (ascii "5000313 4000000000000000" ++ 10 ∷ []))
-unfolding ofBits toBits ofInt round eq lt le each over parse repeat outcome sizeForVersion formatOf layout describe head reaction middle tail before66 event counted peaksFrom attempt attempts flatPeaks peak peakPairs scaled tenThousandths largestMass digit decimalBy decimal hexadecimal trayLine scanLines header judged readHeader scanData pairs entryIn kthEvent handOut withData scanIn scanOf scansText listing
+unfolding ofBits toBits ofInt round eq lt le each over parse repeat outcome sizeForVersion formatOf layout describe reaction before66 eventLayout event counted peaksFrom attempt attempts flatPeaks peak peakPairs scaled tenThousandths largestMass digit decimalBy decimal hexadecimal trayLine scanLines header judged readHeader scanData pairs entryIn withData scanParts listsAndPairsIfFit scanIfFits headerWith readScan scansText listing
 worked-case = refl

@@ -1,21 +1,26 @@
--- What the listing program does: it goes from event to event, and lists each scan from the place of its event. No public
--- promise cites it; proofs/Listing.antt says that it is the listing.
+-- What the listing program does: it reads the header once and goes from event to event over the run. No public promise cites
+-- it; proofs/Listing.antt says that it is the listing.
 use Prim.Native.Nat.{ℕ, zero, suc}
-use mathlib.Core.List.{List, [], _++_}
-use Rattle.refusal.specs.Outcome.{Outcome, andThen}
-use Rattle.tray.specs.Scan.{readScanFrom, eventOf, nextEvent}
-use Rattle.tray.specs.Internal.{placeOrEnd}
-use Rattle.listing_tray.specs.Listing.{lent, scanText, listingOf}
+use mathlib.Core.Bool.{cond}
+use mathlib.Core.List.{List, [], _∷_, _++_}
+use lib.Dec.{ltb}
+use lib.ListN.{length, drop}
+use Rattle.text.specs.Text.{ascii}
+use Rattle.listing_lines.specs.Lines.{line}
+use Rattle.tray_header.specs.Header.{readTrayHeader}
+use Rattle.tray_header.specs.declared.TrayHeader.{TrayHeader}
+use Rattle.tray_scan.specs.Scan.{scanAt, endIn, placeOrEnd}
+use Rattle.listing_tray.specs.Listing.{capacities, scanText, trayText}
 
--- where event k is sought: after event k - 1, if that one was found
-unfoldable pub found : ℕ → List ℕ → Outcome ℕ
-found zero tray = eventOf 0 tray
-found (suc k) tray = andThen (found k tray) (λ at. nextEvent at tray)
+-- where event k is read: after event k - 1
+unfoldable pub walkedPlace : TrayHeader → ℕ → List ℕ → ℕ
+walkedPlace h zero run = h .events
+walkedPlace h (suc k) run = placeOrEnd (endIn h (walkedPlace h k run) run)
 
 -- the first n scans
-unfoldable pub walkedScans : ℕ → List ℕ → List ℕ
-walkedScans zero tray = []
-walkedScans (suc n) tray = walkedScans n tray ++ scanText n (readScanFrom lent n (placeOrEnd (found n tray)) tray)
+unfoldable pub walkedScans : TrayHeader → ℕ → List ℕ → List ℕ
+walkedScans h zero run = []
+walkedScans h (suc n) run = walkedScans h n run ++ scanText n (scanAt capacities h n (walkedPlace h n run) run)
 
 unfoldable pub walked : List ℕ → List ℕ
-walked tray = listingOf (λ n. walkedScans n tray) tray
+walked tray = cond (ltb 24576 (length tray)) (line (ascii "L" ∷ [])) (trayText (λ h. walkedScans h (h .scans) (drop 32 tray)) (readTrayHeader tray))

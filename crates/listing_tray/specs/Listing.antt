@@ -10,39 +10,33 @@ use Rattle.text.specs.Text.{ascii}
 use Rattle.listing_lines.specs.Lines.{line, refusedLine, trayLine, scanLines}
 use Rattle.tray_header.specs.Header.{readTrayHeader}
 use Rattle.tray_header.specs.declared.TrayHeader.{TrayHeader}
-use Rattle.tray_scan.specs.Scan.{Lengths, Decoded}
+use Rattle.tray_scan.specs.Scan.{WrittenScan}
 use Rattle.tray.specs.Scan.{readScan}
 
 -- what the program lends: no preamble is longer than 136 bytes
-abbrev pub lent : Lengths
-lent = record { event = record { preamble = 136; precursors = 64; energies = 64; coefficients = 64 }; mz = 2048; intensity = 2048 }
+abbrev pub capacities : List ℕ
+capacities = 136 ∷ 64 ∷ 64 ∷ 64 ∷ 2048 ∷ 2048 ∷ []
 
 -- scan k, or its refusal
-abbrev pub scanText : ℕ → Outcome Decoded → List ℕ
-scanText k (ok d) = scanLines k (length (d .event .coefficients)) (firsts (d .pairs)) (seconds (d .pairs))
+abbrev pub scanText : ℕ → Outcome WrittenScan → List ℕ
+scanText k (ok v) = scanLines k (v .0 .event .coefficients) (firsts (v .2)) (seconds (v .2))
 scanText k (refused number carries) = refusedLine k number carries
+
+-- the first n scans
+unfoldable pub scansText : ℕ → List ℕ → List ℕ
+scansText zero tray = []
+scansText (suc n) tray = scansText n tray ++ scanText n (readScan 4096 6 capacities n tray)
 
 -- the header, or its refusal
 abbrev pub headerText : Outcome TrayHeader → List ℕ
 headerText (ok h) = trayLine (h .version) (h .scans)
 headerText (refused number carries) = refusedLine 0 number carries
 
--- the first n scans
-unfoldable pub scansText : ℕ → List ℕ → List ℕ
-scansText zero tray = []
-scansText (suc n) tray = scansText n tray ++ scanText n (readScan lent n tray)
+-- a header and what follows it: a refused one prints only its line
+abbrev pub trayText : (TrayHeader → List ℕ) → Outcome TrayHeader → List ℕ
+trayText scans (ok h) = headerText (ok h) ++ scans h
+trayText scans (refused number carries) = headerText (refused number carries)
 
--- a refused header prints only its line
-abbrev pub afterHeader : (ℕ → List ℕ) → Outcome TrayHeader → List ℕ
-afterHeader scans (ok h) = scans (h .scans)
-afterHeader scans (refused number carries) = []
-
--- the header's line and those of the scans; a tray of more than 24,576 bytes prints only `L`
-abbrev pub listingOf : (ℕ → List ℕ) → List ℕ → List ℕ
-listingOf scans tray =
-    cond (ltb 24576 (length tray)) (line (ascii "L" ∷ []))
-    (headerText (readTrayHeader tray) ++ afterHeader scans (readTrayHeader tray))
-
--- the whole listing
+-- the whole listing: a tray of more than 24,576 bytes prints only `L`
 unfoldable pub listing : List ℕ → List ℕ
-listing tray = listingOf (λ n. scansText n tray) tray
+listing tray = cond (ltb 24576 (length tray)) (line (ascii "L" ∷ [])) (trayText (λ h. scansText (h .scans) tray) (readTrayHeader tray))

@@ -1,21 +1,21 @@
 -- What a call leaves, by its outcome, and the room test.
-use mathlib.Core.Path.{_≡_, refl, sym, _∙_}
+use mathlib.Core.Path.{_≡_, refl, sym, ap, _∙_}
 use Prim.Native.Nat.{ℕ, _≤_, _<_}
 use native.Mathlib.Omega.{arith}
-use mathlib.Core.Bool.{Bool, true, false}
-use mathlib.Core.List.{List, [], _∷_, map}
+use mathlib.Core.Bool.{Bool, true, false, _&&_}
+use mathlib.Core.List.{List, [], _∷_, _++_, map}
 use lib.Dec.{leb}
 use lib.ListN.{length, length-map}
 use borrow.Author.Tests.{leb-true, le-leb, lt-leb}
 use Rattle.refusal.specs.Outcome.{Outcome, ok, refused}
-use Rattle.refusal.proofs.Outcomes.{refused-of, ok-not-refused}
+use Rattle.refusal.proofs.Outcomes.{refused-of, ok-not-refused, refused-not-ok}
 use Rattle.refusal.proofs.OneAnswer.{count-one}
 use Rattle.refusal.specs.declared.CountAnswer.{CountAnswer}
 use Rattle.refusal.specs.declared.CountAnswer.the-variants.{Count, Refused}
 use Rattle.refusal.specs.declared.Refusal.the-variants.{NoRoom}
 use Rattle.lists.specs.Written.{over, fitting}
-use Rattle.lists.specs.Left.{after, Left, fits, LeftList, overAll, lengths, listsIfFit, LeftLists, firsts, seconds, pairsIfFit, LeftPairs}
-use Rattle.lists.proofs.Cases.{false-not-true, and-true}
+use Rattle.lists.specs.Left.{after, Left, fits, LeftList, overAll, lengths, listsIfFit, LeftLists, firsts, seconds, columns, pairsIfFit, LeftPairs, ifFits, listsAndPairsIfFit, LeftListsAndPairs}
+use Rattle.lists.proofs.Cases.{false-not-true, and-true, and-false}
 use Rattle.lists.proofs.Laws.{fitting-all}
 
 -- what a call wrote whose answer is known
@@ -115,3 +115,59 @@ module _ {A B : Type 0} where
         let w = fits-true (n ∷ n ∷ []) (length xs ∷ length ys ∷ []) h in
         left-written {a = ps} (rw (count, h)) (sym count)
         (rw (e ∙ column (λ p. p .0) ps xs (omega arith), f ∙ column (λ p. p .1) ps ys (omega arith)))
+
+-- ---- back from the room test
+pub room-true : {A : Type 0} (room : Bool) (v : A) {a : A} → ok a ≡ ifFits room v → (room ≡ true) × (a ≡ v)
+room-true true v h = (refl, cc)
+room-true false v h = ok-not-refused h
+
+pub room-false : {A : Type 0} (room : Bool) (v : A) {n : ℕ} {carries : List ℕ} → refused n carries ≡ ifFits room v → (room ≡ false) × (n ≡ 8) × (carries ≡ [])
+room-false true v h = refused-not-ok h
+room-false false v h = (refl, cc, cc)
+
+pub fits-append : (ns ms cs ds : List ℕ) → length ns ≡ length cs → fits (ns ++ ms) (cs ++ ds) ≡ (fits ns cs && fits ms ds)
+fits-append [] ms [] ds h = refl
+fits-append [] ms (c ∷ cs) ds h = absurd (omega arith)
+fits-append (n ∷ ns) ms [] ds h = absurd (omega arith)
+fits-append (n ∷ ns) ms (c ∷ cs) ds h = go (leb n c) (fits-append ns ms cs ds (omega arith))
+  where
+    go : (b : Bool) → fits (ns ++ ms) (cs ++ ds) ≡ (fits ns cs && fits ms ds) → (b && fits (ns ++ ms) (cs ++ ds)) ≡ ((b && fits ns cs) && fits ms ds)
+    go true e = e
+    go false e = refl
+
+-- ---- lists and pairs: the pairs' room is tested, the lists are written by a call of their own, and then the pairs
+module _ {E A B R S : Type 0} (r : R) (a : S) (vs xs : List (List E)) (even : length (lengths vs) ≡ length (lengths xs)) (ps : List (A × B)) (ys : List A) (zs : List B) where
+  abbrev pub PairsRoom : Bool → Type 0
+  PairsRoom b = fits (length ps ∷ length ps ∷ []) (length ys ∷ length zs ∷ []) ≡ b
+
+  room-is : {b : Bool} → PairsRoom b → fits (lengths vs ++ length ps ∷ length ps ∷ []) (lengths xs ++ length ys ∷ length zs ∷ []) ≡ (fits (lengths vs) (lengths xs) && b)
+  room-is h = fits-append (lengths vs) _ (lengths xs) _ even ∙ rw h
+
+  pub no-pairs-room : PairsRoom false → LeftListsAndPairs (λ c. listsAndPairsIfFit c r vs ps) xs ys zs (refused 8 []) xs ys zs
+  unfolding listsAndPairsIfFit
+  no-pairs-room h = left-refused (rw (room-is h, and-false (fits (lengths vs) (lengths xs))))
+
+  module _ (h : PairsRoom true) {xs′ : List (List E)} where
+    pub no-lists-room : {n : ℕ} {carries : List ℕ} → LeftLists (λ c. listsIfFit c a vs) xs (refused n carries) xs′
+        → LeftListsAndPairs (λ c. listsAndPairsIfFit c r vs ps) xs ys zs (refused n carries) xs′ ys zs
+    unfolding listsIfFit listsAndPairsIfFit
+    no-lists-room l =
+        let s = stayed l in
+        let f = room-false (fits (lengths vs) (lengths xs)) (a, vs) (s .0) in
+        rw (s .1) (left-refused (rw (f .1, f .2, room-is h, f .0)))
+
+    pub lists-wrote : {b : S} → LeftLists (λ c. listsIfFit c a vs) xs (ok b) xs′ → (fits (lengths vs) (lengths xs) ≡ true) × (b ≡ a) × (xs′ ≡ overAll vs xs)
+    unfolding listsIfFit
+    lists-wrote l =
+        let w = wrote l in
+        let f = room-true (fits (lengths vs) (lengths xs)) (a, vs) (w .is) in
+        (f .0, w .answered ∙ ap (λ v. v .0) (f .1), w .written ∙ ap (λ v. overAll (v .1) xs) (f .1))
+
+    pub lists-and-pairs-written : {b : S} {q : R} → LeftLists (λ c. listsIfFit c a vs) xs (ok b) xs′ → q ≡ r
+        → {t : Outcome ℕ} {ys′ : List A} {zs′ : List B} → Left length columns (pairsIfFit (length ys) (length zs) ps) (ys, zs) t (ys′, zs′)
+        → LeftListsAndPairs (λ c. listsAndPairsIfFit c r vs ps) xs ys zs (ok q) xs′ ys′ zs′
+    unfolding listsAndPairsIfFit pairsIfFit after
+    lists-and-pairs-written l e p =
+        let w = lists-wrote l in
+        let both = (rw h at p) .stands in
+        left-written {a = (r, vs, ps)} (rw (room-is h, w .0)) e (rw (w .2, ap (λ (z : List A × List B). z .0) both, ap (λ (z : List A × List B). z .1) both))

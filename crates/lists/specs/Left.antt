@@ -2,7 +2,7 @@
 use mathlib.Core.Path.{_≡_}
 use Prim.Native.Nat.{ℕ}
 use mathlib.Core.Bool.{Bool, true, false, _&&_, cond}
-use mathlib.Core.List.{List, [], _∷_, map}
+use mathlib.Core.List.{List, [], _∷_, _++_, map}
 use lib.Dec.{leb}
 use lib.ListN.{length}
 use Rattle.refusal.specs.Outcome.{Outcome, ok, refused, onOk}
@@ -73,3 +73,16 @@ module _ {A B : Type 0} where
   -- a call of two lent slices that answers how many pairs it wrote. The call goes by the capacities
   abbrev pub LeftPairs : (ℕ → ℕ → Outcome (List (A × B))) → List A → List B → CountAnswer → List A → List B → Type 0
   LeftPairs call xs ys r xs′ ys′ = Left length columns (call (length xs) (length ys)) (xs, ys) (outcomeOfCount r) (xs′, ys′)
+
+-- ---- several lists, each in a slice of its own, and a list of pairs, in two slices
+module _ {E A B : Type 0} where
+  unfoldable pub listsAndPairsIfFit : {R : Type 0} → List ℕ → R → List (List E) → List (A × B) → Outcome (R × List (List E) × List (A × B))
+  listsAndPairsIfFit capacities r vs ps = ifFits (fits (lengths vs ++ length ps ∷ length ps ∷ []) capacities) (r, vs, ps)
+
+  -- such a call was lent the slices xs, and ys and zs for the pairs
+  abbrev pub LeftListsAndPairs : {R : Type 0} → (List ℕ → Outcome (R × List (List E) × List (A × B)))
+      → List (List E) → List A → List B → Outcome R → List (List E) → List A → List B → Type 0
+  LeftListsAndPairs {R} call xs ys zs r xs′ ys′ zs′ =
+      Left (λ (v : R × List (List E) × List (A × B)). v .0)
+      (λ (v : R × List (List E) × List (A × B)) (l : List (List E) × List A × List B). (overAll (v .1) (l .0), over (firsts (v .2)) (l .1), over (seconds (v .2)) (l .2)))
+      (call (lengths xs ++ length ys ∷ length zs ∷ [])) (xs, ys, zs) r (xs′, ys′, zs′)

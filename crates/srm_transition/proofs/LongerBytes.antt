@@ -6,7 +6,7 @@ use Prim.Native.Nat.{ℕ, _+_, _-_, _<_}
 use native.Mathlib.Omega.{arith}
 use lib.Ieee.{Float}
 use lib.ListN.{length}
-use Rattle.srm_transition.specs.Places.{firstOr}
+use Rattle.lists.specs.Filter.{firstOr}
 use Rattle.srm_transition.specs.Transition.{v63Test, v63At, searchV63Transition, eventTest, eventAt, flatv66EventTransition}
 use Rattle.srm_transition.specs.LongerBytes.{FoundStays}
 use Rattle.srm_transition.specs.declared.TransitionAnswer.the-variants.{None, Found}

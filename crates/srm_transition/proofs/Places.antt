@@ -8,14 +8,11 @@ use native.Mathlib.Nat.{add-zero, add-suc, add-assoc}
 use native.Mathlib.Omega.{arith}
 use lib.ListN.{length, length-append}
 use Rattle.lists.specs.Written.{each}
+use Rattle.lists.specs.Filter.{filter, firstOr}
 use Rattle.lists.proofs.Cases.{bool-cases}
-use Rattle.srm_transition.specs.Places.{filter, firstOr, placesWhere}
+use Rattle.lists.proofs.Filter.{filter-append, filter-same}
+use Rattle.srm_transition.specs.Places.{placesWhere}
 use Rattle.srm_transition.proofs.Local.{Local}
-
-filter-append : {A : Type 0} (test : A → Bool) (xs ys : List A) → filter test (xs ++ ys) ≡ filter test xs ++ filter test ys
-filter-append test [] ys = refl
-filter-append test (x ∷ xs) ys =
-    ⊎-elim (λ (t : test x ≡ true). rw (t, filter-append test xs ys)) (λ (t : test x ≡ false). rw (t, filter-append test xs ys)) (bool-cases (test x))
 
 -- of n places from `from` on
 abbrev placesOf : (ℕ → Bool) → ℕ → ℕ → List ℕ
@@ -60,10 +57,6 @@ module _ (test : ℕ → Bool) (from : ℕ) where
         rw parts (rw seam at (places-add test from (i - from) (end - i)))
 
 -- tests that say the same pass the same places
-filter-same : {A : Type 0} (f g : A → Bool) (xs : List A) → ((x : A) → g x ≡ f x) → filter g xs ≡ filter f xs
-filter-same f g [] h = refl
-filter-same f g (x ∷ xs) h = rw (h x, filter-same f g xs h)
-
 pub places-same : (f g : ℕ → Bool) (from end : ℕ) → ((i : ℕ) → g i ≡ f i) → placesWhere g from end ≡ placesWhere f from end
 unfolding placesWhere
 places-same f g from end h = filter-same f g (each (λ k. from + k) (end - from)) h

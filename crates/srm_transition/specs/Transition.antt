@@ -10,7 +10,8 @@ use lib.Ieee.Scale.{finite}
 use lib.ListN.{length}
 use Rattle.float_bits.specs.Absolute.{absolute}
 use Rattle.parser.specs.Parser.{wordAt, f64At}
-use Rattle.srm_transition.specs.Places.{firstOr, placesWhere}
+use Rattle.lists.specs.Filter.{firstOr}
+use Rattle.srm_transition.specs.Places.{placesWhere}
 use Rattle.srm_transition.specs.declared.Transition.{Transition}
 use Rattle.srm_transition.specs.declared.TransitionAnswer.{TransitionAnswer}
 use Rattle.srm_transition.specs.declared.TransitionAnswer.the-variants.{None, Found}

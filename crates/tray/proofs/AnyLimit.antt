@@ -2,48 +2,38 @@
 -- is not 1. Where the header's words keep a part's start below 2^62, nothing is asked of it.
 use mathlib.Core.Path.{_≡_, refl, subst, sym, _∙_}
 use mathlib.Core.Logic.{_⊎_, inl, inr}
-use Prim.Native.Nat.{ℕ, _+_, _*_, _^_, _<_}
-use native.Mathlib.Nat.{mul-le-mul-left}
+use Prim.Native.Nat.{ℕ, _^_, _≤_, _<_}
 use native.Mathlib.Omega.{arith}
-use mathlib.Core.Bool.{Bool, true, false, cond}
-use mathlib.Core.List.{List, [], _∷_}
+use mathlib.Core.Bool.{cond}
+use mathlib.Core.List.{List, [], _∷_, _++_}
 use lib.Dec.{ltb, lit<}
+use lib.Ieee.{Float}
 use lib.ListN.{length, drop}
-use borrow.Author.Tests.{ltb-true}
-use Rattle.refusal.specs.Outcome.{Outcome, ok, refused, ranOut}
+use Rattle.refusal.specs.Outcome.{Outcome, ok, refused, ranOut, andThen}
 use Rattle.refusal.specs.Number.{outcomeOfCount}
 use Rattle.refusal.proofs.OneAnswer.{count-one}
-use Rattle.parser.specs.Parser.{Parser, _>>_, skip, parsed, parse, repeat}
-use Rattle.parser.specs.Call.{Call, answer, part, outcome}
+use Rattle.lists.specs.Left.{lengths, LeftListsAndPairs}
+use Rattle.parser.specs.Parser.{Parser, _>>_, repeat}
+use Rattle.parser.specs.Call.{Call, outcome, single}
 use Rattle.parser.specs.LongerBytes.{Bytes, OnLongerBytes, PrefixProperty, Names, CompletesOn, Completes}
-use Rattle.parser.proofs.Fixed.{sized-raw}
-use Rattle.parser.proofs.Completion.{Bounded, bounded-more, invariant-parsed, drop-bytes}
-use Rattle.parser.proofs.DemandBound.{Any, demand-sized, demand-bind, demand-repeat}
-use Rattle.parser.proofs.Calls.{Avoids, Covers}
-use Rattle.parser.proofs.PrefixedBy.{after-prefix, head-completes, after-completes}
-use Rattle.parser.proofs.OnLongerBytes.{plain-longer, left-longer}
-use Rattle.scan_index.specs.Entry.{entrySize, readEntry}
-use Rattle.scan_index.specs.Entry as Entry
-use Rattle.scan_index.specs.declared.ScanIndexEntry.{ScanIndexEntry}
-use Rattle.scan_index.proofs.Size.{entry-most, entry-sized}
-use Rattle.scan_index.proofs.LongerBytes.{entry-sizable}
+use Rattle.parser.proofs.Completion.{Bounded, drop-bytes}
+use Rattle.parser.proofs.Calls.{NotTruncated, not-truncated-cond, Avoids, Covers}
+use Rattle.parser.proofs.PrefixedBy.{then-prefix, then-names, then-completes-on, after-prefix, head-completes, after-completes}
+use Rattle.parser.proofs.OnLongerBytes.{plain-longer}
 use Rattle.event_record.specs.Event.{Event}
-use Rattle.event_walk.proofs.LongerBytes.{event-demand}
+use Rattle.events.specs.Event.{eventEnd, eventPlace}
 use Rattle.tray_header.specs.Header.{readHeader}
 use Rattle.tray_header.specs.declared.TrayHeader.{TrayHeader}
-use Rattle.tray_header.proofs.Found.{Whole, whole, words}
+use Rattle.tray_header.proofs.Found.{Words, whole, words}
 use Rattle.tray_header.proofs.LongerBytes.{header-prefix, header-names, header-completes}
-use Rattle.tray_data.specs.Data.{dataStart}
-use Rattle.tray_data.proofs.LongerBytes.{data-bounded, finding-not-truncated}
-use Rattle.tray_scan.proofs.LongerBytes.{PartsIn, parts-names, notTruncated, event-bounded}
-use Rattle.tray_scan.proofs.OneAnswer.{scan-answer-one}
-use Rattle.tray_scan.specs.Scan.{formatIn, eventIn, Lengths, Decoded, handOut, withData, eventAndData, outcomeOf, Slices, lengthsOf, written, Answers}
-use Rattle.tray.specs.Scan.{entryIn, kthEvent, scanIn, scanFrom, placeIn, endIn, numbered, overRun, scanOf, scanFromOf, placeOf, endOf}
-use Rattle.tray.proofs.Parts.{entry-alone}
+use Rattle.tray_scan.specs.Scan.{eventIn, ScanParts, scanParts, WrittenScan, scanIfFits, outcomeOf}
+use Rattle.tray_scan.proofs.LongerBytes.{Lent, written-longer, PartsIn, parts-names, RunPart, DataNear, event-bounded, events-bounded, kth-bounded, scan-parts-in, scan-avoids, scan-covers, scan-not-truncated}
+use Rattle.tray.specs.Scan.{overRun, headerWith, readScan, readScanFrom, eventOf, nextEvent}
+use Rattle.tray.proofs.Headers.{numbered, with-size, with-few}
 
 -- the parts of a scan, and those of an event's place
 abbrev pub ScanPart : ℕ → Type 0
-ScanPart q = (q ≡ 1) ⊎ (q ≡ 2) ⊎ (q ≡ 3) ⊎ (q ≡ 4)
+ScanPart q = (q ≡ 1) ⊎ RunPart q
 
 abbrev pub PlacePart : ℕ → Type 0
 PlacePart q = (q ≡ 1) ⊎ (q ≡ 3)
@@ -51,283 +41,208 @@ PlacePart q = (q ≡ 1) ⊎ (q ≡ 3)
 abbrev pub EndNear : ℕ → ℕ → List ℕ → Type 0
 EndNear at q _ = q ≡ 3 → at < 2 ^ 62
 
--- ---- what the parts ask for
-module _ (h : TrayHeader) (k : ℕ) (few : k < 2 ^ 16) where
-  entry-bounded : Bounded (2 ^ 62) (2 ^ 61) (entryIn h k)
-  unfolding entryIn
-  entry-bounded =
-      let n = k * entrySize (h .version) in
-      let size = entrySize (h .version) in
-      bounded-more (2 ^ 62) (n + size) (2 ^ 61) (skip n >> Entry.entry (h .version)) (omega (arith, mul-le-mul-left k (entry-most (h .version)), entry-most (h .version)))
-      (demand-bind (2 ^ 62) n size Any Any (λ _. Entry.entry (h .version)) (λ _ _. demand-sized (2 ^ 62) size (Entry.entry (h .version)) (entry-sized (h .version)))
-      (skip n) (demand-sized (2 ^ 62) n (skip n) (sized-raw n)) .bounded)
+-- ---- any call over the run, after a call that answers the header
+record HeaderCall (header : List ℕ → Outcome TrayHeader) : Type 0 where
+  prefix : PrefixProperty header
+  names : Names (λ q. q ≡ 1) header
+  completes : Completes 1 0 header
+  size : (s : List ℕ) (h : TrayHeader) → header s ≡ ok h → 32 ≤ length s
 
-  module _ (p : h .primary < 2 ^ 32) (d : h .dependent < 2 ^ 32) where
-    events-bounded : Bounded (2 ^ 62) (2 ^ 61) (repeat k (eventIn h))
-    events-bounded =
-        let one = event-demand (h .version) (h .primary) (h .dependent) p d in
-        bounded-more (2 ^ 62) (2 ^ 39 + k * 2 ^ 39) (2 ^ 61) (repeat k (eventIn h)) (omega arith)
-        (demand-repeat (2 ^ 62) (2 ^ 39) (2 ^ 39) k (eventIn h) Any one (one .zeros) .bounded)
+module _ {A : Type 0} (header : List ℕ → Outcome TrayHeader) (H : HeaderCall header) (call : TrayHeader → Call A) where
+  abbrev overCall : List ℕ → Outcome A
+  overCall s = overRun (header s) (λ h. outcome (call h)) s
 
-    kth-bounded : Bounded (2 ^ 62) (2 ^ 61) (kthEvent h k)
-    unfolding kthEvent
-    kth-bounded =
-        let one = event-demand (h .version) (h .primary) (h .dependent) p d in
-        let many = demand-repeat (2 ^ 62) (2 ^ 39) (2 ^ 39) k (eventIn h) Any one (one .zeros) in
-        bounded-more (2 ^ 62) (2 ^ 39 + k * 2 ^ 39 + 2 ^ 39) (2 ^ 61) (repeat k (eventIn h) >> eventIn h) (omega arith)
-        (demand-bind (2 ^ 62) (2 ^ 39 + k * 2 ^ 39) (2 ^ 39) Any Any (λ _. eventIn h) (λ _ _. one) (repeat k (eventIn h)) many .bounded)
+  over-prefix : PrefixProperty overCall
+  over-prefix = after-prefix header (H .prefix) 32 (H .size) call
 
--- ---- the number is judged first
-module _ {A : Type 0} (k : ℕ) (h : TrayHeader) (call : Call A) where
-  parts-numbered : (P : ℕ → Type 0) → PartsIn P call → PartsIn P (numbered k h call)
-  parts-numbered P c = go (ltb k (h .scans))
+  over-names : (P : ℕ → Type 0) → P 1 → ((h : TrayHeader) → PartsIn P (call h)) → Names P overCall
+  over-names P one parts s q i = go (header s) refl i
     where
-      go : (b : Bool) → PartsIn P (cond b call (answer (refused 7 [])))
-      go true = c
-      go false = tt
+      go : (o : Outcome TrayHeader) → header s ≡ o → overRun o (λ h. outcome (call h)) s ≡ ranOut q → P q
+      go (ok h) e j = parts-names P (call h) (parts h) (drop 32 s) q j
+      go (refused m carries) e j =
+          let a : m ≡ 1 = cc in
+          let b : carries ≡ q ∷ [] = cc in
+          subst P (sym (H .names s q (e ∙ rw (a, b)))) one
 
-  avoids-numbered : (p : ℕ) → Avoids p call → Avoids p (numbered k h call)
-  avoids-numbered p c = go (ltb k (h .scans))
-    where
-      go : (b : Bool) → Avoids p (cond b call (answer (refused 7 [])))
-      go true = c
-      go false = tt
+  over-header : ((h : TrayHeader) → Avoids 1 (call h)) → Completes 1 0 overCall
+  over-header avoids = head-completes header (H .prefix) 32 (H .size) call 1 avoids 0 (H .completes)
 
-  covers-numbered : (p : ℕ) (s : List ℕ) → (k < h .scans → Covers (2 ^ 61) p call s) → Covers (2 ^ 61) p (numbered k h call) s
-  covers-numbered p s c = go (ltb k (h .scans)) refl
-    where
-      go : (b : Bool) → ltb k (h .scans) ≡ b → Covers (2 ^ 61) p (cond b call (answer (refused 7 []))) s
-      go true e = c (ltb-true k (h .scans) e)
-      go false e = tt
+  over-part : (q : ℕ) → 1 < q → (s : List ℕ) → Bytes s → length s < 2 ^ 62 → ((h : TrayHeader) → header s ≡ ok h → Covers (2 ^ 61) q (call h) (drop 32 s)) → CompletesOn q overCall s
+  over-part q beyond s isBytes few covers =
+      after-completes header (H .prefix) 32 (H .size) call (2 ^ 61) (lit< tt) q (λ s e. let one = H .names s q e in omega arith) s isBytes few covers
 
 module _ (limit number : ℕ) where
-  -- the data of scan k start below 2^62, if the header and the entry say where
-  abbrev pub DataNear : ℕ → List ℕ → Type 0
-  DataNear k s =
-      (h : TrayHeader) (entry : ScanIndexEntry) → ok h ≡ readHeader limit number s
-      → ok entry ≡ readEntry (h .version) (h .index + k * entrySize (h .version)) (drop 32 s) → dataStart (h .«data») (entry .offset) < 2 ^ 62
-
-  -- by the part: only the data's start can be 2^62 or more, and a place that the caller gives
+  -- the data of scan k start below 2^62, if the header and the entry say where; and a place that the caller gives does
   abbrev pub ScanNear : ℕ → ℕ → List ℕ → Type 0
-  ScanNear k q s = q ≡ 4 → DataNear k s
+  ScanNear k q s = q ≡ 4 → (h : TrayHeader) → ok h ≡ readHeader limit number s → DataNear h k (drop 32 s)
 
   abbrev pub FromNear : ℕ → ℕ → ℕ → List ℕ → Type 0
-  FromNear k at q s = (q ≡ 3 → at < 2 ^ 62) × (q ≡ 4 → DataNear k s)
-
-  -- where event k starts, and what it asks for
-  abbrev EventsNear : ℕ → (TrayHeader → ℕ) → (TrayHeader → Parser Event) → List ℕ → Type 0
-  EventsNear k place events s = (h : TrayHeader) → readHeader limit number s ≡ ok h → k < 2 ^ 16 → (place h < 2 ^ 62) × Bounded (2 ^ 62) (2 ^ 61) (events h)
-
-  there : (s : List ℕ) (h : TrayHeader) → readHeader limit number s ≡ ok h → Whole limit s h
-  there s h e = whole limit number s (sym e)
+  FromNear k at q s = (q ≡ 3 → at < 2 ^ 62) × ScanNear k q s
 
   module _ (other : number ≡ 1 → ⊥) where
-    -- ---- any call over the run
-    module _ {A : Type 0} (call : TrayHeader → Call A) where
-      over-prefix : PrefixProperty (λ s. overRun (readHeader limit number s) call s)
-      over-prefix = after-prefix (readHeader limit number) (header-prefix limit number) 32 (λ s h e. there s h e .size) call
+    plain : HeaderCall (readHeader limit number)
+    plain = record { prefix = header-prefix limit number; names = header-names limit number other; completes = header-completes limit number other; size = λ s h e. whole limit number s (sym e) .size }
 
-      over-names : (P : ℕ → Type 0) → P 1 → ((h : TrayHeader) → PartsIn P (call h)) → Names P (λ s. overRun (readHeader limit number s) call s)
-      over-names P one parts s q i = go (readHeader limit number s) refl i
-        where
-          go : (o : Outcome TrayHeader) → readHeader limit number s ≡ o → overRun o call s ≡ ranOut q → P q
-          go (ok h) e j = parts-names P (call h) (parts h) (drop 32 s) q j
-          go (refused m carries) e j =
-              let a : m ≡ 1 = cc in
-              let b : carries ≡ q ∷ [] = cc in
-              subst P (sym (header-names limit number other s q (e ∙ rw (a, b)))) one
-
-      over-header : ((h : TrayHeader) → Avoids 1 (call h)) → Completes 1 0 (λ s. overRun (readHeader limit number s) call s)
-      over-header avoids = head-completes (readHeader limit number) (header-prefix limit number) 32 (λ s h e. there s h e .size) call 1 avoids 0 (header-completes limit number other)
-
-      over-part : (q : ℕ) → (q ≡ 1 → ⊥) → (s : List ℕ) → Bytes s → length s < 2 ^ 62
-          → ((h : TrayHeader) → readHeader limit number s ≡ ok h → Covers (2 ^ 61) q (call h) (drop 32 s)) → CompletesOn q (λ s. overRun (readHeader limit number s) call s) s
-      over-part q beyond s isBytes few covers =
-          after-completes (readHeader limit number) (header-prefix limit number) 32 (λ s h e. there s h e .size) call (2 ^ 61) (lit< tt) q
-          (λ s e. beyond (header-names limit number other s q e)) s isBytes few covers
+    -- refusal 7 is no refusal 1
+    with-scan : (k : ℕ) → HeaderCall (headerWith limit number k)
+    unfolding headerWith
+    with-scan k =
+        let f = readHeader limit number in
+        let g : TrayHeader → Outcome TrayHeader = λ h. cond (ltb k (h .scans)) (ok h) (refused 7 []) in
+        let settled : (h : TrayHeader) → NotTruncated (g h) = λ h. not-truncated-cond (ltb k (h .scans)) (ok h) (refused 7 []) tt tt in
+        record {
+          prefix = then-prefix f (header-prefix limit number) (λ h _. g h) (λ _ _ _ _. refl);
+          names = then-names f g settled (λ q. q ≡ 1) (header-names limit number other);
+          completes = λ s isBytes few low. then-completes-on f g settled 1 s (header-completes limit number other s isBytes few low);
+          size = λ s h e. with-size limit number s k (sym e);
+        }
 
     module _ (small : limit < 2 ^ 16) where
+      words-of : (s : List ℕ) (k : ℕ) (h : TrayHeader) → headerWith limit number k s ≡ ok h → Bytes s → Words h
+      words-of s k h e isBytes = words limit s (whole limit number s (numbered limit number s k (sym e) .header)) isBytes
+
       -- ---- both calls of a scan: event k is parsed by `events` at `place`
-      module _ (lent : Lengths) (k : ℕ) (place : TrayHeader → ℕ) (events : TrayHeader → Parser Event) where
-        scanBy : TrayHeader → Call Decoded
-        scanBy h =
-            part 2 (h .index) (entryIn h k) λ entry _.
-            part 3 (place h) (events h) λ e next.
-            withData lent h entry e next
+      module _ (capacities : List ℕ) (k : ℕ) (place : TrayHeader → ℕ) (events : TrayHeader → Parser Event) where
+        scan : TrayHeader → Call ScanParts
+        scan h = scanParts h k (place h) (events h)
 
-        numberedBy : TrayHeader → Call Decoded
-        numberedBy h = numbered k h (scanBy h)
+        abbrev parts : List ℕ → Outcome ScanParts
+        parts s = overRun (headerWith limit number k s) (λ h. outcome (scan h)) s
 
-        abbrev by : List ℕ → Outcome Decoded
-        by s = overRun (readHeader limit number s) numberedBy s
+        abbrev by : List ℕ → Outcome WrittenScan
+        by s = andThen (parts s) (scanIfFits capacities)
 
         by-prefix : PrefixProperty by
-        by-prefix = over-prefix numberedBy
+        by-prefix = then-prefix parts (over-prefix _ (with-scan k) scan) (λ p _. scanIfFits capacities p) (λ _ _ _ _. refl)
 
         by-names : Names ScanPart by
-        unfolding numberedBy scanBy withData
+        unfolding scan
         by-names =
-            over-names numberedBy ScanPart (inl refl)
-            (λ h.
-            parts-numbered k h (scanBy h) ScanPart
-            (inr (inl refl), λ entry _. (inr (inr (inl refl)), λ e next. (inr (inr (inr refl)), λ f _. finding-not-truncated (handOut lent entry e next) (notTruncated lent entry e next) f))))
+            then-names parts (scanIfFits capacities) (scan-not-truncated capacities) ScanPart
+            (over-names _ (with-scan k) scan ScanPart (inl refl) (λ h. scan-parts-in h k (place h) (events h) ScanPart (inr (inl refl)) (inr (inr (inl refl))) (inr (inr (inr refl)))))
 
-        by-header : Completes 1 0 by
-        unfolding numberedBy scanBy withData
-        by-header =
-            over-header numberedBy
-            (λ h.
-            avoids-numbered k h (scanBy h) 1
-            ((λ e. omega (arith, e)), λ entry _. ((λ e. omega (arith, e)), λ e next. ((λ e. omega (arith, e)), λ f _. finding-not-truncated (handOut lent entry e next) (notTruncated lent entry e next) f))))
+        module _ (s : List ℕ) (isBytes : Bytes s) (few : length s < 2 ^ 62) (q : ℕ)
+            (near : q ≡ 3 → (h : TrayHeader) → Words h → k < 2 ^ 16 → (place h < 2 ^ 62) × Bounded (2 ^ 62) (2 ^ 61) (events h)) (low : ScanNear k q s) where
+          in-run : RunPart q → CompletesOn q parts s
+          unfolding scan
+          in-run p =
+              over-part _ (with-scan k) scan q (after p) s isBytes few
+              (λ h e.
+              let n = numbered limit number s k (sym e) in
+              let l = with-few limit number s k (sym e) in
+              let w = words-of s k h e isBytes in
+              scan-covers h k (place h) (events h) w (omega arith) (drop 32 s) (drop-bytes 32 s isBytes) q p (λ i. near i h w (omega arith)) (λ i. low i h (n .header)))
+            where
+              after : RunPart q → 1 < q
+              after (inl i) = omega arith
+              after (inr (inl i)) = omega arith
+              after (inr (inr i)) = omega arith
 
-        module _ (s : List ℕ) (isBytes : Bytes s) (few : length s < 2 ^ 62) where
-          by-index : CompletesOn 2 by s
-          unfolding numberedBy scanBy withData
-          by-index =
-              over-part numberedBy 2 (λ e. omega (arith, e)) s isBytes few
-              (λ h i.
-              covers-numbered k h (scanBy h) 2 (drop 32 s)
-              (λ l.
-              inl (
-                refl,
-                omega (arith, words limit s (there s h i) isBytes .index),
-                entry-bounded h k (omega (arith, there s h i .few)),
-                λ entry _. ((λ e. omega (arith, e)), λ e next. ((λ e. omega (arith, e)), λ f _. finding-not-truncated (handOut lent entry e next) (notTruncated lent entry e next) f)),
-              )))
-
-          by-events : EventsNear k place events s → CompletesOn 3 by s
-          unfolding numberedBy scanBy withData
-          by-events near =
-              over-part numberedBy 3 (λ e. omega (arith, e)) s isBytes few
-              (λ h i.
-              covers-numbered k h (scanBy h) 3 (drop 32 s)
-              (λ l.
-              let w = near h i (omega (arith, there s h i .few)) in
-              inr ((λ e. omega (arith, e)), λ entry _ _. inl (refl, w .0, w .1, λ e next. ((λ e. omega (arith, e)), λ f _. finding-not-truncated (handOut lent entry e next) (notTruncated lent entry e next) f)))))
-
-          by-data : DataNear k s → CompletesOn 4 by s
-          unfolding numberedBy scanBy withData readEntry outcome
-          by-data low =
-              over-part numberedBy 4 (λ e. omega (arith, e)) s isBytes few
-              (λ h i.
-              covers-numbered k h (scanBy h) 4 (drop 32 s)
-              (λ l.
-              inr (
-                (λ e. omega (arith, e)),
-                λ entry next q.
-                    let here : parse (Entry.entry (h .version)) (drop 32 s) (h .index + k * entrySize (h .version)) ≡ parsed entry next = sym (entry-alone h k (drop 32 s)) ∙ q in
-                    let near = low h entry (sym i) (rw here) in
-                    let size = invariant-parsed _ (Entry.entry (h .version)) (entry-sizable (h .version)) (drop 32 s) (drop-bytes 32 s isBytes) _ here in
-                    inr (
-                      (λ e. omega (arith, e)),
-                      λ e end _.
-                          inl (refl, near, data-bounded (dataStart (h .«data») (entry .offset)) (entry .offset) (entry .«data_size») near size (formatIn h), λ f _. finding-not-truncated (handOut lent entry e end) (notTruncated lent entry e end) f),
-                    ),
-              )))
-
-          by-part : (q : ℕ) → ScanPart q → (q ≡ 3 → EventsNear k place events s) → (q ≡ 4 → DataNear k s) → CompletesOn q by s
-          by-part q (inl e) events-near data-near = rw e (by-header s isBytes few (lit< tt))
-          by-part q (inr (inl e)) events-near data-near = rw e by-index
-          by-part q (inr (inr (inl e))) events-near data-near = rw e (by-events (events-near e))
-          by-part q (inr (inr (inr e))) events-near data-near = rw e (by-data (data-near e))
+          by-part : ScanPart q → CompletesOn q by s
+          unfolding scan
+          by-part (inl i) =
+              then-completes-on parts (scanIfFits capacities) (scan-not-truncated capacities) q s
+              (rw i (over-header _ (with-scan k) scan (λ h. scan-avoids h k (place h) (events h) 1 (lit< tt)) s isBytes few (lit< tt)))
+          by-part (inr p) = then-completes-on parts (scanIfFits capacities) (scan-not-truncated capacities) q s (in-run p)
 
       -- ---- scan k
       module _ (k : ℕ) where
-        kth-near : (s : List ℕ) → Bytes s → EventsNear k (λ h. h .events) (λ h. kthEvent h k) s
-        kth-near s isBytes h i l = let w = words limit s (there s h i) isBytes in (omega (arith, w .events), kth-bounded h k l (w .primary) (w .dependent))
+        abbrev kth : TrayHeader → Parser Event
+        kth h = repeat k (eventIn h) >> eventIn h
 
-        module _ (lent : Lengths) where
-          pub scan-of-prefix : PrefixProperty (scanOf limit number lent k)
-          unfolding scanOf scanIn scanBy numberedBy
-          scan-of-prefix = by-prefix lent k (λ h. h .events) (λ h. kthEvent h k)
+        module _ (capacities : List ℕ) where
+          pub scan-of-prefix : PrefixProperty (readScan limit number capacities k)
+          unfolding readScan scan
+          scan-of-prefix = by-prefix capacities k (λ h. h .events) kth
 
-          pub scan-of-names : Names ScanPart (scanOf limit number lent k)
-          unfolding scanOf scanIn scanBy numberedBy
-          scan-of-names = by-names lent k (λ h. h .events) (λ h. kthEvent h k)
+          pub scan-of-names : Names ScanPart (readScan limit number capacities k)
+          unfolding readScan scan
+          scan-of-names = by-names capacities k (λ h. h .events) kth
 
           -- by the part that ran out
-          pub scan-of-completes : (q : ℕ) → ScanPart q → (s : List ℕ) → Bytes s → length s < 2 ^ 62 → ScanNear k q s → CompletesOn q (scanOf limit number lent k) s
-          unfolding scanOf scanIn scanBy numberedBy
-          scan-of-completes q p s isBytes few near = by-part lent k (λ h. h .events) (λ h. kthEvent h k) s isBytes few q p (λ _. kth-near s isBytes) near
-
-        pub scan-of-longer : (xs : Slices) → OnLongerBytes outcomeOf (λ s r ys. Answers (λ lent. scanOf limit number lent k s) xs r ys) ScanPart (ScanNear k)
-        scan-of-longer xs =
-            let lent = lengthsOf xs in
-            left-longer outcomeOf scan-answer-one (scanOf limit number lent k) (scan-of-prefix lent) ScanPart (ScanNear k) (scan-of-names lent)
-            (λ q s isBytes few near i. scan-of-completes lent q (scan-of-names lent s q i) s isBytes few near i) (λ (v : Decoded). v .scan) written xs
+          pub scan-of-completes : (q : ℕ) → ScanPart q → (s : List ℕ) → Bytes s → length s < 2 ^ 62 → ScanNear k q s → CompletesOn q (readScan limit number capacities k) s
+          unfolding readScan scan
+          scan-of-completes q p s isBytes few low = by-part capacities k (λ h. h .events) kth s isBytes few q (λ _ h w l. (omega (arith, w .events), kth-bounded h k w l)) low p
 
         -- ---- the same, where event k is read at a place that the caller gives
-        module _ (at : ℕ) where
-          module _ (lent : Lengths) where
-            pub scan-from-of-prefix : PrefixProperty (scanFromOf limit number lent k at)
-            unfolding scanFromOf scanFrom eventAndData scanBy numberedBy
-            scan-from-of-prefix = by-prefix lent k (λ _. at) eventIn
+        module _ (at : ℕ) (capacities : List ℕ) where
+          pub scan-from-of-prefix : PrefixProperty (readScanFrom limit number capacities k at)
+          unfolding readScanFrom scan
+          scan-from-of-prefix = by-prefix capacities k (λ _. at) eventIn
 
-            pub scan-from-of-names : Names ScanPart (scanFromOf limit number lent k at)
-            unfolding scanFromOf scanFrom eventAndData scanBy numberedBy
-            scan-from-of-names = by-names lent k (λ _. at) eventIn
+          pub scan-from-of-names : Names ScanPart (readScanFrom limit number capacities k at)
+          unfolding readScanFrom scan
+          scan-from-of-names = by-names capacities k (λ _. at) eventIn
 
-            pub scan-from-of-completes : (q : ℕ) → ScanPart q → (s : List ℕ) → Bytes s → length s < 2 ^ 62 → FromNear k at q s → CompletesOn q (scanFromOf limit number lent k at) s
-            unfolding scanFromOf scanFrom eventAndData scanBy numberedBy
-            scan-from-of-completes q p s isBytes few near =
-                by-part lent k (λ _. at) eventIn s isBytes few q p
-                (λ e h i l. let w = words limit s (there s h i) isBytes in (near .0 e, event-bounded h (w .primary) (w .dependent))) (near .1)
+          pub scan-from-of-completes : (q : ℕ) → ScanPart q → (s : List ℕ) → Bytes s → length s < 2 ^ 62 → FromNear k at q s → CompletesOn q (readScanFrom limit number capacities k at) s
+          unfolding readScanFrom scan
+          scan-from-of-completes q p s isBytes few near = by-part capacities k (λ _. at) eventIn s isBytes few q (λ e h w _. (near .0 e, event-bounded h k w)) (near .1) p
 
-          pub scan-from-of-longer : (xs : Slices) → OnLongerBytes outcomeOf (λ s r ys. Answers (λ lent. scanFromOf limit number lent k at s) xs r ys) ScanPart (FromNear k at)
-          scan-from-of-longer xs =
-              let lent = lengthsOf xs in
-              left-longer outcomeOf scan-answer-one (scanFromOf limit number lent k at) (scan-from-of-prefix lent) ScanPart (FromNear k at) (scan-from-of-names lent)
-              (λ q s isBytes few near i. scan-from-of-completes lent q (scan-from-of-names lent s q i) s isBytes few near i) (λ (v : Decoded). v .scan) written xs
+        -- the sentences, on the answer and all six slices
+        module _ (xs : List (List ℕ)) (m i : List Float) where
+          abbrev capacities : List ℕ
+          capacities = lengths xs ++ length m ∷ length i ∷ []
+
+          pub scan-of-longer : OnLongerBytes outcomeOf (λ s r (ys : Lent). LeftListsAndPairs (λ c. readScan limit number c k s) xs m i (outcomeOf r) (ys .0) (ys .1) (ys .2)) ScanPart (ScanNear k)
+          scan-of-longer = written-longer xs m i ScanPart (ScanNear k) (readScan limit number capacities k) (scan-of-prefix capacities) (scan-of-names capacities) (scan-of-completes capacities)
+
+          pub scan-from-of-longer : (at : ℕ)
+              → OnLongerBytes outcomeOf (λ s r (ys : Lent). LeftListsAndPairs (λ c. readScanFrom limit number c k at s) xs m i (outcomeOf r) (ys .0) (ys .1) (ys .2)) ScanPart (FromNear k at)
+          scan-from-of-longer at =
+              written-longer xs m i ScanPart (FromNear k at) (readScanFrom limit number capacities k at) (scan-from-of-prefix at capacities) (scan-from-of-names at capacities) (scan-from-of-completes at capacities)
 
       -- ---- where event k stands
       module _ (k : ℕ) where
-        placed : TrayHeader → Call ℕ
-        placed h = numbered k h (placeIn k h)
+        place : TrayHeader → Call ℕ
+        place h = single 3 (h .events) (repeat k (eventIn h)) (λ _ next. ok next)
 
-        pub place-of-prefix : PrefixProperty (placeOf limit number k)
-        unfolding placeOf placed
-        place-of-prefix = over-prefix placed
+        pub place-of-prefix : PrefixProperty (eventOf limit number k)
+        unfolding eventOf eventPlace place
+        place-of-prefix = over-prefix _ (with-scan k) place
 
-        pub place-of-names : Names PlacePart (placeOf limit number k)
-        unfolding placeOf placed placeIn
-        place-of-names = over-names placed PlacePart (inl refl) (λ h. parts-numbered k h (placeIn k h) PlacePart (inr refl, λ _ _. tt))
+        pub place-of-names : Names PlacePart (eventOf limit number k)
+        unfolding eventOf eventPlace place
+        place-of-names = over-names _ (with-scan k) place PlacePart (inl refl) (λ h. (inr refl, λ _ _. tt))
 
-        pub place-of-completes : (q : ℕ) → PlacePart q → (s : List ℕ) → Bytes s → length s < 2 ^ 62 → CompletesOn q (placeOf limit number k) s
-        unfolding placeOf placed placeIn
-        place-of-completes q (inl e) s isBytes few = rw e (over-header placed (λ h. avoids-numbered k h (placeIn k h) 1 ((λ e. omega (arith, e)), λ _ _. tt)) s isBytes few (lit< tt))
+        pub place-of-completes : (q : ℕ) → PlacePart q → (s : List ℕ) → Bytes s → length s < 2 ^ 62 → CompletesOn q (eventOf limit number k) s
+        unfolding eventOf eventPlace place
+        place-of-completes q (inl e) s isBytes few = rw e (over-header _ (with-scan k) place (λ h. ((λ e. omega (arith, e)), λ _ _. tt)) s isBytes few (lit< tt))
         place-of-completes q (inr e) s isBytes few =
             rw e
-            (over-part placed 3 (λ e. omega (arith, e)) s isBytes few
+            (over-part _ (with-scan k) place 3 (lit< tt) s isBytes few
             (λ h i.
-            covers-numbered k h (placeIn k h) 3 (drop 32 s)
-            (λ l.
-            let w = words limit s (there s h i) isBytes in
-            inl (refl, omega (arith, w .events), events-bounded h k (omega (arith, there s h i .few)) (w .primary) (w .dependent), λ _ _. tt))))
+            let w = words-of s k h i isBytes in
+            let l = with-few limit number s k (sym i) in
+            inl (refl, omega (arith, w .events), events-bounded h k w (omega arith), λ _ _. tt)))
 
-        pub place-of-longer : OnLongerBytes outcomeOfCount (λ s r (_ : Unit {0}). outcomeOfCount r ≡ placeOf limit number k s) PlacePart (λ _ _. Unit {0})
+        pub place-of-longer : OnLongerBytes outcomeOfCount (λ s r (_ : Unit {0}). outcomeOfCount r ≡ eventOf limit number k s) PlacePart (λ _ _. Unit {0})
         place-of-longer =
-            plain-longer outcomeOfCount count-one (placeOf limit number k) place-of-prefix PlacePart (λ _ _. Unit {0}) place-of-names
+            plain-longer outcomeOfCount count-one (eventOf limit number k) place-of-prefix PlacePart (λ _ _. Unit {0}) place-of-names
             (λ q s isBytes few _ i. place-of-completes q (place-of-names s q i) s isBytes few i)
 
       -- ---- where the event at a place ends
       module _ (at : ℕ) where
-        pub end-of-prefix : PrefixProperty (endOf limit number at)
-        unfolding endOf
-        end-of-prefix = over-prefix (endIn at)
+        end : TrayHeader → Call ℕ
+        end h = single 3 at (eventIn h) (λ _ next. ok next)
 
-        pub end-of-names : Names PlacePart (endOf limit number at)
-        unfolding endOf endIn
-        end-of-names = over-names (endIn at) PlacePart (inl refl) (λ h. (inr refl, λ _ _. tt))
+        pub end-of-prefix : PrefixProperty (nextEvent limit number at)
+        unfolding nextEvent eventEnd end
+        end-of-prefix = over-prefix _ plain end
 
-        pub end-of-completes : (q : ℕ) → PlacePart q → (s : List ℕ) → Bytes s → length s < 2 ^ 62 → EndNear at q s → CompletesOn q (endOf limit number at) s
-        unfolding endOf endIn
-        end-of-completes q (inl e) s isBytes few near = rw e (over-header (endIn at) (λ h. ((λ e. omega (arith, e)), λ _ _. tt)) s isBytes few (lit< tt))
+        pub end-of-names : Names PlacePart (nextEvent limit number at)
+        unfolding nextEvent eventEnd end
+        end-of-names = over-names _ plain end PlacePart (inl refl) (λ h. (inr refl, λ _ _. tt))
+
+        pub end-of-completes : (q : ℕ) → PlacePart q → (s : List ℕ) → Bytes s → length s < 2 ^ 62 → EndNear at q s → CompletesOn q (nextEvent limit number at) s
+        unfolding nextEvent eventEnd end
+        end-of-completes q (inl e) s isBytes few near = rw e (over-header _ plain end (λ h. ((λ e. omega (arith, e)), λ _ _. tt)) s isBytes few (lit< tt))
         end-of-completes q (inr e) s isBytes few near =
             rw e
-            (over-part (endIn at) 3 (λ e. omega (arith, e)) s isBytes few
-            (λ h i. let w = words limit s (there s h i) isBytes in inl (refl, near e, event-bounded h (w .primary) (w .dependent), λ _ _. tt)))
+            (over-part _ plain end 3 (lit< tt) s isBytes few
+            (λ h i. inl (refl, near e, event-bounded h 0 (words limit s (whole limit number s (sym i)) isBytes), λ _ _. tt)))
 
-        pub end-of-longer : OnLongerBytes outcomeOfCount (λ s r (_ : Unit {0}). outcomeOfCount r ≡ endOf limit number at s) PlacePart (EndNear at)
+        pub end-of-longer : OnLongerBytes outcomeOfCount (λ s r (_ : Unit {0}). outcomeOfCount r ≡ nextEvent limit number at s) PlacePart (EndNear at)
         end-of-longer =
-            plain-longer outcomeOfCount count-one (endOf limit number at) end-of-prefix PlacePart (EndNear at) end-of-names
+            plain-longer outcomeOfCount count-one (nextEvent limit number at) end-of-prefix PlacePart (EndNear at) end-of-names
             (λ q s isBytes few near i. end-of-completes q (end-of-names s q i) s isBytes few near i)

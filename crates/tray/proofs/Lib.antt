@@ -1,7 +1,5 @@
-pub mod Parts
-pub mod Scans
+pub mod Headers
 pub mod Walk
 pub mod AnyLimit
 pub mod LongerBytes
-pub mod Consistent
 pub mod Examples

@@ -1,120 +1,110 @@
 -- Going on from the event before gives the same answers: `event_of` says where event k stands, `next_event` leads from one to
 -- the next, and a scan read from there is the scan. Where event k has no place, any place after the end serves.
 use mathlib.Core.Path.{_≡_, refl, ap, sym, _∙_}
-use Prim.Native.Nat.{ℕ, suc, _+_, _*_, _-_, _^_, _≤_, _<_}
+use Prim.Native.Nat.{ℕ, suc, _-_, _^_, _≤_, _<_}
 use native.Mathlib.Omega.{arith}
-use mathlib.Core.Bool.{Bool, true, false, cond}
 use mathlib.Core.List.{List, []}
-use lib.Dec.{ltb}
 use lib.ListN.{length, drop, length-drop}
-use Rattle.refusal.specs.Outcome.{Outcome, ok, refused, ranOut, andThen}
-use Rattle.parser.specs.Parser.{repeat}
-use Rattle.parser.specs.Call.{answer, outcome}
-use Rattle.parser.proofs.Answered.{ran-out}
-use Rattle.scan_index.specs.Entry.{entrySize, readEntry}
-use Rattle.scan_index.specs.declared.ScanIndexEntry.{ScanIndexEntry}
+use Rattle.refusal.specs.Outcome.{Outcome, ok, refused, andThen}
+use Rattle.parser.specs.Parser.{Parser, _>>_, parse, repeat}
+use Rattle.parser.specs.Call.{onward, outcome, partAt}
+use Rattle.parser.proofs.Prefix.{parse-bind}
+use Rattle.parser.proofs.Answered.{found, ran-out}
 use Rattle.event_record.specs.Event.{Event}
-use Rattle.event_walk.specs.Walk.{eventEnd, eventPlace}
-use Rattle.event_walk.proofs.Steps.{place-none, place-more, none-after}
-use Rattle.tray_header.specs.Header.{readHeader, readTrayHeader}
+use Rattle.events.specs.Event.{eventEnd, eventPlace}
+use Rattle.events.proofs.Steps.{place-none, place-more, none-after}
+use Rattle.tray_header.specs.Header.{readHeader}
 use Rattle.tray_header.specs.declared.TrayHeader.{TrayHeader}
-use Rattle.tray_scan.specs.Scan.{eventIn, Lengths, scanOfEntry}
-use Rattle.tray_scan.proofs.Results.{event-short}
-use Rattle.tray.specs.Scan.{scanIn, scanFrom, placeIn, endIn, numbered, overRun, scanOf, scanFromOf, placeOf, endOf, readScan, readScanFrom, eventOf, nextEvent}
-use Rattle.tray.specs.Internal.{placeOrEnd}
-use Rattle.tray.proofs.Scans.{no-entry-from, no-entry, from-place, no-place, at-place, in-run, in-scan}
+use Rattle.tray_scan.specs.Scan.{eventIn, scanParts, scanIfFits, scanAt, endIn, placeOrEnd}
+use Rattle.tray_scan.proofs.Parts.{same-event}
+use Rattle.tray.specs.Scan.{overRun, headerWith, readScan, readScanFrom, eventOf, nextEvent}
+use Rattle.tray.proofs.Headers.{has-scan}
 
--- a walk that is refused ran out
-walk-short : {A : Type 0} (h : TrayHeader) (k : ℕ) (s : List ℕ) {n : ℕ} {carries : List ℕ} → refused n carries ≡ eventPlace (h .version) (h .primary) (h .dependent) (h .events) k s
-    → _≡_ {A = Outcome A} (ranOut 3) (refused n carries)
-unfolding eventPlace
-walk-short h k s i = let r = ran-out 3 (h .events) (repeat k (eventIn h)) (λ (_ : List Event) (n : ℕ). n) s i in rw (r .one, r .part)
+-- ---- in a run
+module _ (h : TrayHeader) (k : ℕ) (s : List ℕ) where
+  -- event k, which those before it precede
+  abbrev kth : Parser Event
+  kth = repeat k (eventIn h) >> eventIn h
+
+  abbrev pub placeIn : Outcome ℕ
+  placeIn = eventPlace (h .version) (h .primary) (h .dependent) (h .events) k s
+
+  at-place : {at : ℕ} → ok at ≡ placeIn → partAt 3 at (eventIn h) s ≡ partAt 3 (h .events) kth s
+  unfolding eventPlace partAt
+  at-place i =
+      let f = found 3 (h .events) (repeat k (eventIn h)) (λ (_ : List Event) (n : ℕ). n) s i in
+      rw (parse-bind (repeat k (eventIn h)) (λ _. eventIn h) s (h .events), f .there)
+      (ap (λ n. onward {A = Event × ℕ} 3 (parse (eventIn h) s n) (λ e next. ok (e, next))) (f .made))
+
+  no-place : {n : ℕ} {carries : List ℕ} → refused n carries ≡ placeIn → (at : ℕ) → length s ≤ at → partAt 3 at (eventIn h) s ≡ partAt 3 (h .events) kth s
+  unfolding eventPlace eventEnd partAt
+  no-place i at far =
+      let r = ran-out 3 (h .events) (repeat k (eventIn h)) (λ (_ : List Event) (n : ℕ). n) s i in
+      let none = ran-out 3 at (eventIn h) (λ (_ : Event) (n : ℕ). n) s (sym (none-after (h .version) (h .primary) (h .dependent) s at far)) in
+      rw (parse-bind (repeat k (eventIn h)) (λ _. eventIn h) s (h .events), r .there, none .there)
+
+  pub from-place : {at : ℕ} → ok at ≡ placeIn → outcome (scanParts h k at (eventIn h)) s ≡ outcome (scanParts h k (h .events) kth) s
+  from-place {at} i = same-event h k s at (h .events) (eventIn h) kth (at-place i)
+
+  pub from-end : {n : ℕ} {carries : List ℕ} → refused n carries ≡ placeIn → (at : ℕ) → length s ≤ at → outcome (scanParts h k at (eventIn h)) s ≡ outcome (scanParts h k (h .events) kth) s
+  from-end i at far = same-event h k s at (h .events) (eventIn h) kth (no-place i at far)
+
+  pub from-either : length s < 2 ^ 63 → outcome (scanParts h k (placeOrEnd placeIn) (eventIn h)) s ≡ outcome (scanParts h k (h .events) kth) s
+  from-either few = go placeIn refl
+    where
+      go : (o : Outcome ℕ) → o ≡ placeIn → outcome (scanParts h k (placeOrEnd o) (eventIn h)) s ≡ outcome (scanParts h k (h .events) kth) s
+      go (ok at) i = from-place i
+      go (refused n carries) i = from-end i (2 ^ 64 - 1) (omega arith)
 
 then-same : {A B : Type 0} (f g : A → Outcome B) → ((a : A) → f a ≡ g a) → (o : Outcome A) → andThen o f ≡ andThen o g
 then-same f g h (ok a) = h a
 then-same f g h (refused n carries) = refl
 
--- ---- in a run
-module _ (lent : Lengths) (h : TrayHeader) (k at : ℕ) (s : List ℕ) where
-  -- entry k decides first, so it is enough that they agree where it is there
-  by-entry : ((entry : ScanIndexEntry) → ok entry ≡ readEntry (h .version) (h .index + k * entrySize (h .version)) s
-      → scanOfEntry lent h entry at s ≡ outcome (scanIn lent k h) s) → outcome (scanFrom lent k at h) s ≡ outcome (scanIn lent k h) s
-  by-entry same = go (readEntry (h .version) (h .index + k * entrySize (h .version)) s) refl
-    where
-      go : (o : Outcome ScanIndexEntry) → readEntry (h .version) (h .index + k * entrySize (h .version)) s ≡ o → outcome (scanFrom lent k at h) s ≡ outcome (scanIn lent k h) s
-      go (refused n carries) i = sym (no-entry-from lent h k s at (sym i)) ∙ no-entry lent h k s (sym i)
-      go (ok entry) i = sym (from-place lent h k s (sym i) at) ∙ same entry (sym i)
-
-  at-event : ok at ≡ outcome (placeIn k h) s → outcome (scanFrom lent k at h) s ≡ outcome (scanIn lent k h) s
-  unfolding placeIn eventPlace
-  at-event i = by-entry (λ entry e. at-place lent h k s e i)
-
-  after-run : {n : ℕ} {carries : List ℕ} → refused n carries ≡ outcome (placeIn k h) s → length s ≤ at → outcome (scanFrom lent k at h) s ≡ outcome (scanIn lent k h) s
-  unfolding placeIn eventPlace
-  after-run i far =
-      by-entry (λ entry e.
-      sym (event-short h entry at s lent (sym (none-after (h .version) (h .primary) (h .dependent) s at far))) ∙ walk-short h k s i ∙ no-place lent h k s e i)
-
 -- ---- in a tray, whatever its limit of scans is
 module _ (limit number : ℕ) (s : List ℕ) where
   module _ {h : TrayHeader} (e : ok h ≡ readHeader limit number s) where
-    pub first-of : 0 < h .scans → placeOf limit number 0 s ≡ ok (h .events)
-    unfolding placeOf placeIn eventPlace
-    first-of l = sym (in-scan limit number s (placeIn 0) e 0 l) ∙ place-none (h .version) (h .primary) (h .dependent) (drop 32 s) (h .events)
+    pub place-first : 0 < h .scans → eventOf limit number 0 s ≡ ok (h .events)
+    unfolding eventOf
+    place-first l = rw (← has-scan limit number s 0 e l) (place-none (h .version) (h .primary) (h .dependent) (drop 32 s) (h .events))
 
-    pub next-of : (k : ℕ) → suc k < h .scans → placeOf limit number (suc k) s ≡ andThen (placeOf limit number k s) (λ at. endOf limit number at s)
-    unfolding placeOf endOf placeIn endIn eventPlace eventEnd
-    next-of k l =
-        sym (in-scan limit number s (placeIn (suc k)) e (suc k) l)
-        ∙ place-more (h .version) (h .primary) (h .dependent) (drop 32 s) (h .events) k
-        ∙ then-same (λ at. eventEnd (h .version) (h .primary) (h .dependent) at (drop 32 s)) (λ at. endOf limit number at s) (λ at. in-run limit number s (endIn at) e)
-        (eventPlace (h .version) (h .primary) (h .dependent) (h .events) k (drop 32 s))
-        ∙ ap (λ o. andThen o (λ at. endOf limit number at s)) (in-scan limit number s (placeIn k) e k (omega arith))
+    pub place-next : (k : ℕ) → suc k < h .scans → eventOf limit number (suc k) s ≡ andThen (eventOf limit number k s) (λ at. nextEvent limit number at s)
+    unfolding eventOf nextEvent
+    place-next k l =
+        rw (← has-scan limit number s (suc k) e l, ← has-scan limit number s k e (omega arith), ← e)
+        (place-more (h .version) (h .primary) (h .dependent) (drop 32 s) (h .events) k)
 
-  module _ (lent : Lengths) (k at : ℕ) where
-    -- they agree in a tray if they do in each run
-    in-tray : (o : Outcome ℕ) → ((h : TrayHeader) → o ≡ outcome (placeIn k h) (drop 32 s) → outcome (scanFrom lent k at h) (drop 32 s) ≡ outcome (scanIn lent k h) (drop 32 s))
-        → o ≡ placeOf limit number k s → scanFromOf limit number lent k at s ≡ scanOf limit number lent k s
-    unfolding placeOf scanFromOf scanOf outcome
-    in-tray o same i = go (readHeader limit number s) i
+  module _ (capacities : List ℕ) (k at : ℕ) where
+    -- they agree in a tray if they do in its run
+    in-tray : (o : Outcome ℕ) → ((h : TrayHeader) → o ≡ placeIn h k (drop 32 s) → outcome (scanParts h k at (eventIn h)) (drop 32 s) ≡ outcome (scanParts h k (h .events) (kth h k (drop 32 s))) (drop 32 s))
+        → o ≡ eventOf limit number k s → readScanFrom limit number capacities k at s ≡ readScan limit number capacities k s
+    unfolding eventOf readScanFrom readScan
+    in-tray o same i = go (headerWith limit number k s) i
       where
-        by : (b : Bool) (h : TrayHeader) → o ≡ outcome (cond b (placeIn k h) (answer (refused 7 []))) (drop 32 s)
-            → outcome (cond b (scanFrom lent k at h) (answer (refused 7 []))) (drop 32 s) ≡ outcome (cond b (scanIn lent k h) (answer (refused 7 []))) (drop 32 s)
-        by true h j = same h j
-        by false h j = refl
-
-        go : (t : Outcome TrayHeader) → o ≡ overRun t (λ h. numbered k h (placeIn k h)) s
-            → overRun t (λ h. numbered k h (scanFrom lent k at h)) s ≡ overRun t (λ h. numbered k h (scanIn lent k h)) s
-        go (ok h) j = by (ltb k (h .scans)) h j
+        go : (t : Outcome TrayHeader) → o ≡ overRun t (λ h. eventPlace (h .version) (h .primary) (h .dependent) (h .events) k) s
+            → andThen (overRun t (λ h. outcome (scanParts h k at (eventIn h))) s) (scanIfFits capacities)
+            ≡ andThen (overRun t (λ h. outcome (scanParts h k (h .events) (repeat k (eventIn h) >> eventIn h))) s) (scanIfFits capacities)
+        go (ok h) j = ap (λ o. andThen o (scanIfFits capacities)) (same h j)
         go (refused n carries) j = refl
 
-    pub from-place-of : ok at ≡ placeOf limit number k s → scanFromOf limit number lent k at s ≡ scanOf limit number lent k s
-    from-place-of = in-tray (ok at) (λ h. at-event lent h k at (drop 32 s))
+    -- from the place of event k
+    pub from-event : ok at ≡ eventOf limit number k s → readScanFrom limit number capacities k at s ≡ readScan limit number capacities k s
+    from-event = in-tray (ok at) (λ h. from-place h k (drop 32 s))
 
-    pub no-place-of : (n : ℕ) (carries : List ℕ) → refused n carries ≡ placeOf limit number k s → length s ≤ at → scanFromOf limit number lent k at s ≡ scanOf limit number lent k s
-    no-place-of n carries i far =
+    -- event k has no place
+    pub no-event : {n : ℕ} {carries : List ℕ} → refused n carries ≡ eventOf limit number k s → length s ≤ at → readScanFrom limit number capacities k at s ≡ readScan limit number capacities k s
+    no-event {n} {carries} i far =
         let beyond : length (drop 32 s) ≤ at = simp length-drop (omega arith) in
-        in-tray (refused n carries) (λ h j. after-run lent h k at (drop 32 s) j beyond) i
+        in-tray (refused n carries) (λ h j. from-end h k (drop 32 s) j at beyond) i
 
--- ---- in a tray of at most 4,096 scans
-pub place-first : (s : List ℕ) {h : TrayHeader} → ok h ≡ readTrayHeader s → 0 < h .scans → eventOf 0 s ≡ ok (h .events)
-place-first s e = first-of 4096 6 s e
+  -- read at the place of event k, or after the end
+  module _ (capacities : List ℕ) (k : ℕ) where
+    pub no-header-no-scan : {n : ℕ} {carries : List ℕ} → refused n carries ≡ headerWith limit number k s → refused n carries ≡ readScan limit number capacities k s
+    unfolding readScan
+    no-header-no-scan i = rw (← i)
 
-pub place-next : (s : List ℕ) {h : TrayHeader} → ok h ≡ readTrayHeader s → (k : ℕ) → suc k < h .scans → eventOf (suc k) s ≡ andThen (eventOf k s) (λ at. nextEvent at s)
-place-next s e = next-of 4096 6 s e
-
-module _ (lent : Lengths) (k : ℕ) (s : List ℕ) where
-  -- from the place of event k
-  pub from-event : {at : ℕ} → ok at ≡ eventOf k s → readScanFrom lent k at s ≡ readScan lent k s
-  from-event {at} i = from-place-of 4096 6 s lent k at i
-
-  -- event k has no place
-  pub no-event : {n : ℕ} {carries : List ℕ} → refused n carries ≡ eventOf k s → (at : ℕ) → length s ≤ at → readScanFrom lent k at s ≡ readScan lent k s
-  no-event {n} {carries} i at far = no-place-of 4096 6 s lent k at n carries i far
-
-  pub same-answers : length s < 2 ^ 63 → readScanFrom lent k (placeOrEnd (eventOf k s)) s ≡ readScan lent k s
-  same-answers size = go (eventOf k s) refl
-    where
-      go : (o : Outcome ℕ) → o ≡ eventOf k s → readScanFrom lent k (placeOrEnd o) s ≡ readScan lent k s
-      go (ok at) i = from-event i
-      go (refused n carries) i = no-event i (2 ^ 64 - 1) (omega arith)
+    pub scan-in : {h : TrayHeader} → ok h ≡ headerWith limit number k s → length s < 2 ^ 63 → {at : ℕ} → at ≡ placeOrEnd (placeIn h k (drop 32 s))
+        → scanAt capacities h k at (drop 32 s) ≡ readScan limit number capacities k s
+    unfolding readScan scanAt
+    scan-in {h} i few e =
+        let short : length (drop 32 s) < 2 ^ 63 = simp length-drop (omega arith) in
+        rw (e, ← i) (ap (λ o. andThen o (scanIfFits capacities)) (from-either h k (drop 32 s) short))

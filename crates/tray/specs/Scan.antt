@@ -1,77 +1,39 @@
--- Scan k of a tray (document 01, "Tray"): header, entry k, event k, and the data.
-use Prim.Native.Nat.{ℕ, _*_}
+-- A tray's calls (document 01, "Tray" and "Turned down"): the header decides, then the scan's number, and then the run.
+use Prim.Native.Nat.{ℕ}
 use mathlib.Core.Bool.{cond}
 use mathlib.Core.List.{List, []}
 use lib.Dec.{ltb}
 use lib.ListN.{drop}
 use Rattle.refusal.specs.Outcome.{Outcome, ok, refused, andThen}
-use Rattle.parser.specs.Parser.{Parser, _>>_, skip, repeat}
-use Rattle.parser.specs.Call.{Call, answer, part, outcome, single}
-use Rattle.scan_index.specs.Entry.{entry, entrySize}
-use Rattle.scan_index.specs.declared.ScanIndexEntry.{ScanIndexEntry}
-use Rattle.event_record.specs.Event.{Event}
+use Rattle.parser.specs.Parser.{_>>_, repeat}
+use Rattle.parser.specs.Call.{outcome}
+use Rattle.events.specs.Event.{eventPlace}
 use Rattle.tray_header.specs.Header.{readHeader}
 use Rattle.tray_header.specs.declared.TrayHeader.{TrayHeader}
-use Rattle.tray_scan.specs.Scan.{eventIn, Lengths, Decoded, withData, eventAndData}
+use Rattle.tray_scan.specs.Scan.{eventIn, scanParts, WrittenScan, scanIfFits, endIn}
 
--- entry k of the index, and event k of the events: those before it are passed
-unfoldable pub entryIn : TrayHeader → ℕ → Parser ScanIndexEntry
-entryIn h k = skip (k * entrySize (h .version)) >> entry (h .version)
+-- what follows of a header, over the run, which starts at byte 32
+abbrev pub overRun : {A : Type 0} → Outcome TrayHeader → (TrayHeader → List ℕ → Outcome A) → List ℕ → Outcome A
+overRun header call tray = andThen header (λ h. call h (drop 32 tray))
 
-unfoldable pub kthEvent : TrayHeader → ℕ → Parser Event
-kthEvent h k = repeat k (eventIn h) >> eventIn h
-
--- scan k: the index is part 2, the events are part 3
-unfoldable pub scanIn : Lengths → ℕ → TrayHeader → Call Decoded
-scanIn lent k h =
-    part 2 (h .index) (entryIn h k) λ entry _.
-    part 3 (h .events) (kthEvent h k) λ e next.
-    withData lent h entry e next
-
--- the same, where event k is read at a place of the run that the caller gives
-unfoldable pub scanFrom : Lengths → ℕ → ℕ → TrayHeader → Call Decoded
-scanFrom lent k at h =
-    part 2 (h .index) (entryIn h k) λ entry _.
-    eventAndData lent h entry at
-
--- where event k stands, and where the event at a place ends: the events are part 3
-unfoldable pub placeIn : ℕ → TrayHeader → Call ℕ
-placeIn k h = single 3 (h .events) (repeat k (eventIn h)) (λ _ next. ok next)
-
-unfoldable pub endIn : ℕ → TrayHeader → Call ℕ
-endIn at h = single 3 at (eventIn h) (λ _ next. ok next)
-
--- k is below the count, or refusal 7
-abbrev pub numbered : {A : Type 0} → ℕ → TrayHeader → Call A → Call A
-numbered k h call = cond (ltb k (h .scans)) call (answer (refused 7 []))
-
--- a call over the run of a tray, which starts at byte 32
-abbrev pub overRun : {A : Type 0} → Outcome TrayHeader → (TrayHeader → Call A) → List ℕ → Outcome A
-overRun header call tray = andThen header (λ h. outcome (call h) (drop 32 tray))
-
--- the calls over a tray of at most `limit` scans, where more are a refusal of this number
+-- of a tray with at most `limit` scans, where more are a refusal of this number
 module _ (limit number : ℕ) where
-  unfoldable pub scanOf : Lengths → ℕ → List ℕ → Outcome Decoded
-  scanOf lent k tray = overRun (readHeader limit number tray) (λ h. numbered k h (scanIn lent k h)) tray
+  -- the header of a tray that has a scan k, or refusal 7
+  unfoldable pub headerWith : ℕ → List ℕ → Outcome TrayHeader
+  headerWith k tray = andThen (readHeader limit number tray) (λ h. cond (ltb k (h .scans)) (ok h) (refused 7 []))
 
-  unfoldable pub scanFromOf : Lengths → ℕ → ℕ → List ℕ → Outcome Decoded
-  scanFromOf lent k at tray = overRun (readHeader limit number tray) (λ h. numbered k h (scanFrom lent k at h)) tray
+  -- what `read_scan` answers: the events 0 to k stand where the header says
+  unfoldable pub readScan : List ℕ → ℕ → List ℕ → Outcome WrittenScan
+  readScan capacities k tray =
+      andThen (overRun (headerWith k tray) (λ h. outcome (scanParts h k (h .events) (repeat k (eventIn h) >> eventIn h))) tray) (scanIfFits capacities)
 
-  unfoldable pub placeOf : ℕ → List ℕ → Outcome ℕ
-  placeOf k tray = overRun (readHeader limit number tray) (λ h. numbered k h (placeIn k h)) tray
+  -- `read_scan_from`: event k stands at a place of the run that the caller gives
+  unfoldable pub readScanFrom : List ℕ → ℕ → ℕ → List ℕ → Outcome WrittenScan
+  readScanFrom capacities k at tray = andThen (overRun (headerWith k tray) (λ h. outcome (scanParts h k at (eventIn h))) tray) (scanIfFits capacities)
 
-  unfoldable pub endOf : ℕ → List ℕ → Outcome ℕ
-  endOf at tray = overRun (readHeader limit number tray) (endIn at) tray
+  -- `event_of` and `next_event`
+  unfoldable pub eventOf : ℕ → List ℕ → Outcome ℕ
+  eventOf k tray = overRun (headerWith k tray) (λ h. eventPlace (h .version) (h .primary) (h .dependent) (h .events) k) tray
 
--- what `read_scan`, `read_scan_from`, `event_of` and `next_event` answer
-abbrev pub readScan : Lengths → ℕ → List ℕ → Outcome Decoded
-readScan = scanOf 4096 6
-
-abbrev pub readScanFrom : Lengths → ℕ → ℕ → List ℕ → Outcome Decoded
-readScanFrom = scanFromOf 4096 6
-
-abbrev pub eventOf : ℕ → List ℕ → Outcome ℕ
-eventOf = placeOf 4096 6
-
-abbrev pub nextEvent : ℕ → List ℕ → Outcome ℕ
-nextEvent = endOf 4096 6
+  unfoldable pub nextEvent : ℕ → List ℕ → Outcome ℕ
+  nextEvent at tray = overRun (readHeader limit number tray) (λ h. endIn h at) tray

@@ -1,5 +1,5 @@
 pub mod Parts
-pub mod Handed
-pub mod Results
+pub mod Writing
+pub mod Consistent
 pub mod OneAnswer
 pub mod LongerBytes

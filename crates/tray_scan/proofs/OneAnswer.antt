@@ -3,10 +3,10 @@ use mathlib.Core.Path.{_≡_, ap}
 use Rattle.refusal.proofs.OneAnswer.{refusal-one}
 use Rattle.tray_scan.specs.Scan.{outcomeOf}
 use Rattle.tray_scan.specs.declared.ScanAnswer.{ScanAnswer}
-use Rattle.tray_scan.specs.declared.ScanAnswer.the-variants as answer
+use Rattle.tray_scan.specs.declared.ScanAnswer.the-variants as answers
 
 pub scan-answer-one : (a b : ScanAnswer) → outcomeOf a ≡ outcomeOf b → a ≡ b
-scan-answer-one (answer.Scan x) (answer.Scan y) h = cc
-scan-answer-one (answer.Scan x) (answer.Refused q) h = cc
-scan-answer-one (answer.Refused r) (answer.Scan y) h = cc
-scan-answer-one (answer.Refused r) (answer.Refused q) h = ap answer.Refused (refusal-one r q h)
+scan-answer-one (answers.Scan x) (answers.Scan y) h = cc
+scan-answer-one (answers.Scan x) (answers.Refused q) h = cc
+scan-answer-one (answers.Refused r) (answers.Scan y) h = cc
+scan-answer-one (answers.Refused r) (answers.Refused q) h = ap answers.Refused (refusal-one r q h)

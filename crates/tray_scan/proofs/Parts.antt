@@ -1,52 +1,124 @@
--- The event of a scan, by what the functions answered that read it.
+-- A scan is its entry, its event and its data in turn.
 use mathlib.Core.Path.{_≡_, refl, ap, sym, _∙_}
-use Prim.Native.Nat.{ℕ}
-use mathlib.Core.Bool.{Bool, true, false, cond}
+use mathlib.Core.Logic.{⊎-elim}
+use Prim.Native.Nat.{ℕ, _+_, _*_, _-_, _^_}
+use native.Mathlib.Omega.{arith}
+use mathlib.Core.Bool.{true, false}
 use mathlib.Core.List.{List}
 use lib.Dec.{leb}
-use Rattle.refusal.specs.Outcome.{ok, refused}
-use Rattle.parser.specs.Parser.{parsed, parse}
-use Rattle.parser.specs.Call.{Call, part, outcome, single}
-use Rattle.parser.proofs.Answered.{found, ran-out}
-use Rattle.event_record.specs.Event.{Event, handOut}
-use Rattle.event_record.specs.declared.Lent.{Lent}
-use Rattle.event_before_66.specs.Layout.{before66, readBefore66}
-use Rattle.event_from_66.specs.Layout.{from66, readFrom66}
-use Rattle.events.specs.Event.{readEvent}
-use Rattle.event_walk.specs.Walk.{event, eventEnd}
+use borrow.Author.Tests.{leb-false, lt-leb}
+use Rattle.refusal.specs.Outcome.{Outcome, ok, refused, onOk, andThen}
+use Rattle.lists.proofs.Cases.{leb-cases}
+use Rattle.parser.specs.Parser.{Parser, Parsed, short, parsed, parse, left}
+use Rattle.parser.specs.Call.{onward, outcome, partAt}
+use Rattle.parser.proofs.Fixed.{parse-sized}
+use Rattle.scan_index.specs.Entry.{entry, entrySize, readEntry}
+use Rattle.scan_index.specs.declared.ScanIndexEntry.{ScanIndexEntry}
+use Rattle.scan_index.proofs.Size.{entry-least, entry-sized}
+use Rattle.event_record.specs.Event.{Event}
+use Rattle.event_record.specs.Places.{findBy, outcomeOfPlaces}
+use Rattle.event_record.specs.declared.PlacesAnswer.{PlacesAnswer}
+use Rattle.event_record.specs.declared.PlacesAnswer.the-variants as place
+use Rattle.events.specs.Event.{layout, eventEnd}
+use Rattle.events.proofs.Ends.{found-event}
 use Rattle.tray_header.specs.declared.TrayHeader.{TrayHeader}
-use Rattle.tray_scan.specs.Scan.{eventIn}
+use Rattle.tray_data.specs.Data.{findData, contentAt}
+use Rattle.tray_data.specs.declared.ScanData.{ScanData}
+use Rattle.tray_data.proofs.Answers.{data-found, data-refused}
+use Rattle.tray_scan.specs.Scan.{formatIn, entryIn, eventIn, ScanParts, withData, scanParts, scanIfFits, scanAt, endIn, placeOrEnd}
+use Rattle.tray_scan.specs.Internal.{entryOf, inTurn, eventFound, nextPlace}
 
-module _ (h : TrayHeader) (s : List ℕ) {A : Type 0} (follow : Event → ℕ → Call A) where
-  pub end-short : (at : ℕ) {n : ℕ} {carries : List ℕ} → refused n carries ≡ eventEnd (h .version) (h .primary) (h .dependent) at s
-      → refused n carries ≡ outcome (part 3 at (eventIn h) follow) s
-  unfolding eventEnd outcome
-  end-short at i =
-      let r = ran-out 3 at (eventIn h) (λ (_ : Event) (n : ℕ). n) s i in
-      rw (r .there, r .one, r .part)
+module _ (h : TrayHeader) (k : ℕ) (s : List ℕ) where
+  -- an entry that is there has those before it in front of it
+  pub entry-alone : parse (entryIn h k) s (h .index) ≡ parse (entry (h .version)) s (h .index + k * entrySize (h .version))
+  unfolding entryIn parse
+  entry-alone =
+      let n = k * entrySize (h .version) in
+      ⊎-elim
+      (λ (e : leb n (left s (h .index)) ≡ true). rw e)
+      (λ (e : leb n (left s (h .index)) ≡ false).
+      let few = leb-false n (left s (h .index)) e in
+      let none = lt-leb (entrySize (h .version)) (left s (h .index + n)) (omega (arith, entry-least (h .version))) in
+      rw (e, parse-sized (entrySize (h .version)) (entry (h .version)) (entry-sized (h .version)) s (h .index + n), none))
+      (leb-cases n (left s (h .index)))
 
-module _ (h : TrayHeader) (s : List ℕ) (at : ℕ) where
-  -- an event whose end was found
-  pub record Ended (end : ℕ) : Type 0 where
-    pub event : Event
-    pub there : parse (eventIn h) s at ≡ parsed event end
-
-  pub ended : {end : ℕ} → ok end ≡ eventEnd (h .version) (h .primary) (h .dependent) at s → Ended end
-  unfolding eventEnd
-  ended i =
-      let f = found 3 at (eventIn h) (λ (_ : Event) (n : ℕ). n) s i in
-      record { event = f .value; there = f .there ∙ ap (parsed (f .value)) (sym (f .made)) }
-
-  -- its reader
-  pub read-is : (lent : Lent) → readEvent (h .version) (h .primary) (h .dependent) lent at s ≡ outcome (single 3 at (eventIn h) (handOut lent)) s
-  unfolding readEvent readFrom66 readBefore66 event
-  read-is lent = go (leb 66 (h .version))
+  pub in-turn : (place : ℕ) (events : Parser Event) → inTurn h k (partAt 3 place events s) s ≡ outcome (scanParts h k place events) s
+  unfolding inTurn readEntry scanParts outcome partAt
+  in-turn place events = rw entry-alone (go (parse (entry (h .version)) s (h .index + k * entrySize (h .version))))
     where
-      go : (b : Bool) → cond b (outcome (single 3 at (from66 (h .primary) (h .dependent)) (handOut lent)) s) (outcome (single 3 at (before66 (h .version)) (handOut lent)) s)
-          ≡ outcome (single 3 at (cond b (from66 (h .primary) (h .dependent)) (before66 (h .version))) (handOut lent)) s
-      go true = refl
-      go false = refl
+      of-event : (entry : ScanIndexEntry) (o : Parsed Event)
+          → andThen {A = Event × ℕ} (onward 3 o (λ e next. ok (e, next))) (λ v. outcome (withData h entry (v .0) (v .1)) s) ≡ onward 3 o (λ e next. outcome (withData h entry e next) s)
+      of-event entry short = refl
+      of-event entry (parsed e next) = refl
 
-  pub read-ended : (lent : Lent) {end : ℕ} (e : Ended end) → readEvent (h .version) (h .primary) (h .dependent) lent at s ≡ handOut lent (e .event) end
-  unfolding outcome
-  read-ended lent e = read-is lent ∙ rw (e .there)
+      go : (o : Parsed ScanIndexEntry)
+          → andThen (onward 2 o (λ e _. ok e)) (λ entry. andThen {A = Event × ℕ} (onward 3 (parse events s place) (λ e next. ok (e, next))) (λ v. outcome (withData h entry (v .0) (v .1)) s))
+          ≡ onward 2 o (λ entry _. onward 3 (parse events s place) (λ e next. outcome (withData h entry e next) s))
+      go short = refl
+      go (parsed entry next) = of-event entry (parse events s place)
+
+  -- the events count by what stands there alone
+  pub same-event : (place place′ : ℕ) (events events′ : Parser Event) → partAt 3 place events s ≡ partAt 3 place′ events′ s
+      → outcome (scanParts h k place events) s ≡ outcome (scanParts h k place′ events′) s
+  same-event place place′ events events′ e = sym (in-turn place events) ∙ ap (λ o. inTurn h k o s) e ∙ in-turn place′ events′
+
+  -- ---- by what was found
+  module _ (o : Outcome (Event × ℕ)) where
+    pub no-entry : {n : ℕ} {carries : List ℕ} → refused n carries ≡ entryOf h k s → refused n carries ≡ inTurn h k o s
+    unfolding inTurn
+    no-entry i = rw (← i)
+
+    module _ {entry : ScanIndexEntry} (i : ok entry ≡ entryOf h k s) where
+      pub no-event : {n : ℕ} {carries : List ℕ} → refused n carries ≡ o → refused n carries ≡ inTurn h k o s
+      unfolding inTurn
+      no-event j = rw (← i, ← j)
+
+      module _ {e : Event} {next : ℕ} (j : ok (e, next) ≡ o) where
+        pub no-data : {n : ℕ} {carries : List ℕ} → refused n carries ≡ findData (formatIn h) (h .«data») (entry .offset) (entry .«data_size») s → refused n carries ≡ inTurn h k o s
+        unfolding inTurn withData
+        no-data f =
+            rw (← i, ← j)
+            (data-refused (λ content. ok (record { entry = entry; event = e; next = next; content = content })) (h .«data») (entry .offset) (entry .«data_size») s (formatIn h) f)
+
+        pub all-there : {d : ScanData} → ok d ≡ findData (formatIn h) (h .«data») (entry .offset) (entry .«data_size») s
+            → ok (record { entry = entry; event = e; next = next; content = contentAt d s }) ≡ inTurn h k o s
+        unfolding inTurn withData
+        all-there f =
+            rw (← i, ← j)
+            (data-found (λ content. ok (record { entry = entry; event = e; next = next; content = content })) (h .«data») (entry .offset) (entry .«data_size») s (formatIn h) f)
+
+-- ---- an event that `find_event` answered
+module _ (h : TrayHeader) (at : ℕ) (s : List ℕ) where
+  abbrev pub Finds : PlacesAnswer → Type 0
+  Finds x = outcomeOfPlaces x ≡ findBy (layout (h .version) (h .primary) (h .dependent)) at s
+
+  is-event : (x : PlacesAnswer) → Finds x → eventFound s x ≡ partAt 3 at (eventIn h) s
+  is-event x e = ap (onOk _) e ∙ found-event (h .version) (h .primary) (h .dependent) at s
+
+  pub end-is : endIn h at s ≡ andThen (partAt 3 at (eventIn h) s) (λ v. ok (v .1))
+  unfolding eventEnd outcome partAt
+  end-is = go (parse (eventIn h) s at)
+    where
+      go : (o : Parsed Event) → onward 3 o (λ _ next. ok next) ≡ andThen {A = Event × ℕ} (onward 3 o (λ e next. ok (e, next))) (λ v. ok (v .1))
+      go short = refl
+      go (parsed e next) = refl
+
+  pub next-is : (x : PlacesAnswer) → Finds x → nextPlace x ≡ placeOrEnd (endIn h at s)
+  next-is x e = go x (sym (end-is ∙ ap (λ o. andThen o (λ v. ok (v .1))) (sym (is-event x e))))
+    where
+      go : (x : PlacesAnswer) → andThen (eventFound s x) (λ v. ok (v .1)) ≡ endIn h at s → nextPlace x ≡ placeOrEnd (endIn h at s)
+      go (place.At p) i = ap placeOrEnd i
+      go (place.Refused r) i = ap placeOrEnd i
+
+-- ---- the scan, where the event was sought first
+module _ (h : TrayHeader) (k at : ℕ) (s : List ℕ) (x : PlacesAnswer) (e : Finds h at s x) where
+  whole : inTurn h k (eventFound s x) s ≡ outcome (scanParts h k at (eventIn h)) s
+  whole = ap (λ o. inTurn h k o s) (is-event h at s x e) ∙ in-turn h k s at (eventIn h)
+
+  pub not-found : {n : ℕ} {carries : List ℕ} → refused n carries ≡ inTurn h k (eventFound s x) s → (capacities : List ℕ) → refused n carries ≡ scanAt capacities h k at s
+  unfolding scanAt
+  not-found i capacities = rw (← (i ∙ whole))
+
+  pub was-found : {p : ScanParts} → ok p ≡ inTurn h k (eventFound s x) s → (capacities : List ℕ) → scanIfFits capacities p ≡ scanAt capacities h k at s
+  unfolding scanAt
+  was-found i capacities = rw (← (i ∙ whole))

@@ -1,95 +1,79 @@
--- The scan of an entry of a tray (document 01, "Tray"): its event, the data, and the pairs that they give.
-use Prim.Native.Nat.{ℕ}
-use mathlib.Core.Bool.{_&&_}
-use mathlib.Core.List.{List, [], _∷_}
+-- Scan k of a run by its tray's header (document 01, "Tray"): entry k, event k and the data, and what is written of them.
+use Prim.Native.Nat.{ℕ, _*_, _-_, _^_}
+use mathlib.Core.List.{List}
 use lib.Dec.{eqb}
-use lib.Ieee.{Float}
 use lib.ListN.{length}
-use Rattle.refusal.specs.Outcome.{Outcome, ok}
+use Rattle.refusal.specs.Outcome.{Outcome, ok, refused, andThen}
 use Rattle.refusal.specs.Number.{outcomeOfRefusal}
-use Rattle.lists.specs.Written.{over}
-use Rattle.lists.specs.Left.{Left, fits, ifFits, firsts, seconds}
-use Rattle.parser.specs.Parser.{Parser}
+use Rattle.lists.specs.Left.{listsAndPairsIfFit}
+use Rattle.parser.specs.Parser.{Parser, _>>_, skip}
 use Rattle.parser.specs.Call.{Call, answer, part, outcome}
 use Rattle.scan_format.specs.Format.{formatOf}
 use Rattle.scan_format.specs.declared.ScanDataFormat.{ScanDataFormat}
+use Rattle.scan_index.specs.Entry.{entry, entrySize}
 use Rattle.scan_index.specs.declared.ScanIndexEntry.{ScanIndexEntry}
-use Rattle.event_record.specs.Event.{Event, decoded, lentOf, hasRoom}
-use Rattle.event_record.specs.Event as event
-use Rattle.event_record.specs.declared.Lent.{Lent}
-use Rattle.event_walk.specs.Walk.{event as oneEvent}
+use Rattle.event_record.specs.Event.{Event, describe, eventLists}
+use Rattle.events.specs.Event.{event, eventEnd}
 use Rattle.pairs.specs.Pairs.{Pair}
 use Rattle.tray_header.specs.declared.TrayHeader.{TrayHeader}
 use Rattle.tray_data.specs.Data.{Content, ofFinding, dataStart, scanData, pairs}
 use Rattle.tray_scan.specs.declared.Scan.{Scan}
 use Rattle.tray_scan.specs.declared.ScanAnswer.{ScanAnswer}
-use Rattle.tray_scan.specs.declared.ScanAnswer.the-variants as answer
+use Rattle.tray_scan.specs.declared.ScanAnswer.the-variants as answers
 
--- the header's format, and an event of its layout
+-- the header's format; entry k of the index, which those before it precede; and an event
 abbrev pub formatIn : TrayHeader → ScanDataFormat
 formatIn h = formatOf (h .version) (eqb (h .flat) 1)
 
+unfoldable pub entryIn : TrayHeader → ℕ → Parser ScanIndexEntry
+entryIn h k = skip (k * entrySize (h .version)) >> entry (h .version)
+
 abbrev pub eventIn : TrayHeader → Parser Event
-eventIn h = oneEvent (h .version) (h .primary) (h .dependent)
+eventIn h = event (h .version) (h .primary) (h .dependent)
 
--- how many elements of each slice are lent
-pub record Lengths : Type 0 where
-  pub event : Lent
-  pub mz : ℕ
-  pub intensity : ℕ
+-- a scan as it was read, and the place after its event
+pub record ScanParts : Type 0 where
+  pub entry : ScanIndexEntry
+  pub event : Event
+  pub next : ℕ
+  pub content : Content
 
--- what is handed out: the answer's record, the event's lists, and the pairs
-pub record Decoded : Type 0 where
-  pub scan : Scan
-  pub event : event.Decoded
-  pub pairs : List Pair
-
--- the event and the pairs that its coefficients give, or refusal 8 where a lent slice is shorter than its count
-unfoldable pub handOut : Lengths → ScanIndexEntry → Event → ℕ → Content → Outcome Decoded
-handOut lent entry e next content =
-    let ps = pairs (e .coefficients) content in
-    ifFits (fits (length ps ∷ length ps ∷ []) (lent .mz ∷ lent .intensity ∷ []) && hasRoom (lent .event) (length (e .preamble)) (length (e .reactions)) (length (e .coefficients)))
-    (record {
-      scan = record { entry = entry; event = decoded e next .event; pairs = length ps };
-      event = decoded e next;
-      pairs = ps;
-    })
-
--- the data, part 4, of an entry and an event
-unfoldable pub withData : Lengths → TrayHeader → ScanIndexEntry → Event → ℕ → Call Decoded
-withData lent h entry e next =
+-- the data of an entry, part 4
+unfoldable pub withData : TrayHeader → ScanIndexEntry → Event → ℕ → Call ScanParts
+withData h entry e next =
     let at = dataStart (h .«data») (entry .offset) in
-    part 4 at (scanData (formatIn h) at (entry .offset) (entry .«data_size»)) (λ found _. answer (ofFinding (handOut lent entry e next) found))
+    part 4 at (scanData (formatIn h) at (entry .offset) (entry .«data_size»)) λ found _.
+    answer (ofFinding (λ content. ok (record { entry = entry; event = e; next = next; content = content })) found)
 
--- the event at a place, part 3, and the data
-unfoldable pub eventAndData : Lengths → TrayHeader → ScanIndexEntry → ℕ → Call Decoded
-eventAndData lent h entry at = part 3 at (eventIn h) (λ e next. withData lent h entry e next)
+-- scan k: the index is part 2, and the events, which this parser reads at a place, are part 3
+unfoldable pub scanParts : TrayHeader → ℕ → ℕ → Parser Event → Call ScanParts
+scanParts h k place events =
+    part 2 (h .index) (entryIn h k) λ entry _.
+    part 3 place events λ e next.
+    withData h entry e next
 
--- what `scan_of_entry` answers
-unfoldable pub scanOfEntry : Lengths → TrayHeader → ScanIndexEntry → ℕ → List ℕ → Outcome Decoded
-scanOfEntry lent h entry at run = outcome (eventAndData lent h entry at) run
+-- the answer's record, and what is written: the event's lists, and the pairs
+abbrev pub WrittenScan : Type 0
+WrittenScan = Scan × List (List ℕ) × List Pair
+
+-- the same of a scan, by its event's coefficients, or refusal 8, where slices of these capacities are lent
+unfoldable pub scanIfFits : List ℕ → ScanParts → Outcome WrittenScan
+scanIfFits capacities p =
+    let ps = pairs (p .event .coefficients) (p .content) in
+    listsAndPairsIfFit capacities (record { entry = p .entry; event = describe (p .event) (p .next); pairs = length ps }) (eventLists (p .event)) ps
+
+-- what `scan_at` answers, where event k stands at a place
+unfoldable pub scanAt : List ℕ → TrayHeader → ℕ → ℕ → List ℕ → Outcome WrittenScan
+scanAt capacities h k at run = andThen (outcome (scanParts h k at (eventIn h)) run) (scanIfFits capacities)
+
+-- the place after that event; where it was not found, the last of all, at which no run has an event
+abbrev pub endIn : TrayHeader → ℕ → List ℕ → Outcome ℕ
+endIn h at run = eventEnd (h .version) (h .primary) (h .dependent) at run
+
+abbrev pub placeOrEnd : Outcome ℕ → ℕ
+placeOrEnd (ok at) = at
+placeOrEnd (refused number carries) = 2 ^ 64 - 1
 
 abbrev pub outcomeOf : ScanAnswer → Outcome Scan
-outcomeOf (answer.Scan s) = ok s
-outcomeOf (answer.Refused r) = outcomeOfRefusal r
-
--- the six lent slices: the event's four, and two for the pairs; and their lengths
-pub record Slices : Type 0 where
-  pub event : event.Slices
-  pub mz : List Float
-  pub intensity : List Float
-
-abbrev pub slices : List ℕ → List ℕ → List ℕ → List ℕ → List Float → List Float → Slices
-slices p q e c m i = record { event = event.slices p q e c; mz = m; intensity = i }
-
-abbrev pub lengthsOf : Slices → Lengths
-lengthsOf xs = record { event = lentOf (xs .event); mz = length (xs .mz); intensity = length (xs .intensity) }
-
--- a scan is written over the slices' fronts
-abbrev pub written : Decoded → Slices → Slices
-written d xs =
-    record { event = event.written (d .event) (xs .event); mz = over (firsts (d .pairs)) (xs .mz); intensity = over (seconds (d .pairs)) (xs .intensity) }
-
--- a call was lent the slices xs: it answers r, and leaves ys. The call goes by the slices' lengths
-abbrev pub Answers : (Lengths → Outcome Decoded) → Slices → ScanAnswer → Slices → Type 0
-Answers call xs r ys = Left (λ (d : Decoded). d .scan) written (call (lengthsOf xs)) xs (outcomeOf r) ys
+outcomeOf (answers.Scan s) = ok s
+outcomeOf (answers.Refused r) = outcomeOfRefusal r

@@ -1,15 +1,22 @@
-// The scan of an entry: its event, and the pairs that the data give by that event's coefficients. All bytes are judged before
-// anything is written.
+// Scan k of a run, by its tray's header: the entry, the event and the data are found, the room of all slices is tested, and
+// then they are written.
 ghost use mathlib.Core.Path.{_≡_};
-ghost use Rattle.tray_scan.specs.Scan.{formatIn, scanOfEntry, slices, Answers};
-ghost use Rattle.tray_scan.specs.Internal.{Judged};
+ghost use mathlib.Core.List.{[], _∷_};
+ghost use Rattle.lists.specs.Left.{LeftListsAndPairs};
+ghost use Rattle.scan_index.specs.Entry.{outcomeOf as outcomeOfEntry};
+ghost use Rattle.tray_data.specs.Data.{findData, outcomeOf as outcomeOfData};
+ghost use Rattle.tray_scan.specs.Scan.{formatIn, scanIfFits, scanAt, endIn, placeOrEnd, outcomeOf};
+ghost use Rattle.tray_scan.specs.Internal.{entryOf, inTurn, partsAt, outcomeOfScanPlaces, Counted, CountedIn, eventFound, nextPlace};
 use event_record::EventAnswer;
+use event_record::Places;
+use event_record::PlacesAnswer;
 use event_record::ScanEvent;
-use event_walk::event_end;
+use event_writer::write_event;
+use events::find_event;
 use lists::holds;
-use refusal::CountAnswer;
 use refusal::Refusal;
 use scan_format::ScanDataFormat;
+use scan_index::EntryAnswer;
 use scan_index::ScanIndexEntry;
 use tray_data::DataAnswer;
 use tray_data::ScanData;
@@ -30,20 +37,65 @@ pub enum ScanAnswer {
     Refused(Refusal),
 }
 
-// The format of a tray's run.
-fn format_of(h: TrayHeader) -> ScanDataFormat
-    ensures { λ r. ⌜ r ≡ formatIn h ⌝ }
-{
-    ScanDataFormat::detect(h.version, h.flat == 1)
+// A scan's answer, and the place to read the next event at: after the scan's event, or the largest of all where that was not
+// found, whatever became of the entry and the data.
+pub struct ScanAndNext {
+    pub scan: ScanAnswer,
+    pub next: u64,
 }
 
-// A scan whose event and data are there. The event's room is tested where it is read.
-fn hand_out(
-    run: &[u8],
-    h: TrayHeader,
+// A scan whose bytes are all there.
+struct ScanPlaces {
     entry: ScanIndexEntry,
-    at: u64,
-    found: ScanData,
+    event: Places,
+    data: ScanData,
+}
+
+enum ScanPlacesAnswer {
+    At(ScanPlaces),
+    Refused(Refusal),
+}
+
+// Entry k of the index.
+fn entry_of(run: &[u8], h: TrayHeader, k: u32) -> EntryAnswer
+    ensures { λ r. ⌜ outcomeOfEntry r ≡ entryOf h k (now (run .entry)) ⌝ }
+{
+    let size = ScanIndexEntry::min_size_for_version(h.version);
+    ScanIndexEntry::read(run, h.index as u64 + k as u64 * size, h.version)
+}
+
+fn data_of(run: &[u8], h: TrayHeader, entry: ScanIndexEntry) -> DataAnswer
+    ensures { λ r. ⌜ outcomeOfData r ≡ findData (formatIn h) (h .«data») (entry .offset) (entry .«data_size») (now (run .entry)) ⌝ }
+{
+    let format = ScanDataFormat::detect(h.version, h.flat == 1);
+    find_data(run, format, h.data as u64, entry.offset, entry.data_size)
+}
+
+// Entry k and its data, with the event that was sought.
+fn find_scan(run: &[u8], h: TrayHeader, k: u32, event: PlacesAnswer) -> ScanPlacesAnswer
+    ensures { λ r. ⌜ outcomeOfScanPlaces (now (run .entry)) r ≡ inTurn h k (eventFound (now (run .entry)) event) (now (run .entry)) ⌝ }
+    ensures { λ r. ⌜ CountedIn (now (run .entry)) r ⌝ }
+{
+    match entry_of(run, h, k) {
+        EntryAnswer::Refused(r) => ScanPlacesAnswer::Refused(r),
+        EntryAnswer::Entry(entry) => match event {
+            PlacesAnswer::Refused(r) => ScanPlacesAnswer::Refused(r),
+            PlacesAnswer::At(places) => match data_of(run, h, entry) {
+                DataAnswer::Refused(r) => ScanPlacesAnswer::Refused(r),
+                DataAnswer::Data(data) => ScanPlacesAnswer::At(ScanPlaces {
+                    entry,
+                    event: places,
+                    data,
+                }),
+            },
+        },
+    }
+}
+
+// A scan that was found, where the slices hold it. The event's room is tested where it is written.
+fn write_scan(
+    run: &[u8],
+    p: ScanPlaces,
     preamble: &mut [u8],
     precursors: &mut [u64],
     energies: &mut [u64],
@@ -51,32 +103,25 @@ fn hand_out(
     mz: &mut [f64],
     intensity: &mut [f64],
 ) -> ScanAnswer
-    requires { ⌜ Judged h entry at (now run) found ⌝ }
-    ensures { λ r. ⌜ Answers (λ lent. scanOfEntry lent h entry at (now (run .entry)))
-        (slices (now (preamble .entry)) (now (precursors .entry)) (now (energies .entry)) (now (coefficients .entry)) (now (mz .entry)) (now (intensity .entry)))
-        r (slices (now (preamble .exit)) (now (precursors .exit)) (now (energies .exit)) (now (coefficients .exit)) (now (mz .exit)) (now (intensity .exit))) ⌝ }
+    requires { ⌜ Counted (now run) (p .«data») ⌝ }
+    ensures { λ r. ⌜ LeftListsAndPairs (λ c. scanIfFits c (partsAt (now (run .entry)) p))
+        (now (preamble .entry) ∷ now (precursors .entry) ∷ now (energies .entry) ∷ now (coefficients .entry) ∷ []) (now (mz .entry)) (now (intensity .entry))
+        (outcomeOf r) (now (preamble .exit) ∷ now (precursors .exit) ∷ now (energies .exit) ∷ now (coefficients .exit) ∷ []) (now (mz .exit)) (now (intensity .exit)) ⌝ }
 {
-    let pairs = pair_count(found);
+    let entry = p.entry;
+    let places = p.event;
+    let data = p.data;
+    let pairs = pair_count(data);
     if holds(
         pairs,
         mz.len() as u64,
         holds(pairs, intensity.len() as u64, true),
     ) {
-        return match events::read(
-            run,
-            at,
-            h.version,
-            h.primary,
-            h.dependent,
-            preamble,
-            precursors,
-            energies,
-            coefficients,
-        ) {
+        return match write_event(run, places, preamble, precursors, energies, coefficients) {
             EventAnswer::Refused(r) => ScanAnswer::Refused(r),
             EventAnswer::Event(event) => {
                 let n = event.coefficients as usize;
-                data_pairs(run, found, &coefficients[..n], mz, intensity);
+                data_pairs(run, data, &coefficients[..n], mz, intensity);
                 ScanAnswer::Scan(Scan {
                     entry,
                     event,
@@ -88,11 +133,21 @@ fn hand_out(
     ScanAnswer::Refused(Refusal::NoRoom)
 }
 
-// The scan of an entry, whose event stands at a place of the run.
-pub fn scan_of_entry(
+// The place to read the next event at.
+fn next_place(event: PlacesAnswer) -> u64
+    ensures { λ r. ⌜ r ≡ nextPlace event ⌝ }
+{
+    match event {
+        PlacesAnswer::Refused(_) => u64::MAX,
+        PlacesAnswer::At(p) => p.next,
+    }
+}
+
+// Scan k, whose event stands at a place of the run.
+pub fn scan_at(
     run: &[u8],
     h: TrayHeader,
-    entry: ScanIndexEntry,
+    k: u32,
     at: u64,
     preamble: &mut [u8],
     precursors: &mut [u64],
@@ -100,36 +155,31 @@ pub fn scan_of_entry(
     coefficients: &mut [u64],
     mz: &mut [f64],
     intensity: &mut [f64],
-) -> ScanAnswer
-    ensures { λ r. ⌜ Answers (λ lent. scanOfEntry lent h entry at (now (run .entry)))
-        (slices (now (preamble .entry)) (now (precursors .entry)) (now (energies .entry)) (now (coefficients .entry)) (now (mz .entry)) (now (intensity .entry)))
-        r (slices (now (preamble .exit)) (now (precursors .exit)) (now (energies .exit)) (now (coefficients .exit)) (now (mz .exit)) (now (intensity .exit))) ⌝ }
+) -> ScanAndNext
+    ensures { λ r. ⌜ LeftListsAndPairs (λ c. scanAt c h k at (now (run .entry)))
+        (now (preamble .entry) ∷ now (precursors .entry) ∷ now (energies .entry) ∷ now (coefficients .entry) ∷ []) (now (mz .entry)) (now (intensity .entry))
+        (outcomeOf (r .scan)) (now (preamble .exit) ∷ now (precursors .exit) ∷ now (energies .exit) ∷ now (coefficients .exit) ∷ []) (now (mz .exit)) (now (intensity .exit)) ⌝ }
+    ensures { λ r. ⌜ r .next ≡ placeOrEnd (endIn h at (now (run .entry))) ⌝ }
 {
-    match event_end(run, at, h.version, h.primary, h.dependent) {
-        CountAnswer::Refused(r) => ScanAnswer::Refused(r),
-        CountAnswer::Count(_) => {
-            match find_data(
+    let event = find_event(run, at, h.version, h.primary, h.dependent);
+    let next = next_place(event);
+    match find_scan(run, h, k, event) {
+        ScanPlacesAnswer::Refused(r) => ScanAndNext {
+            scan: ScanAnswer::Refused(r),
+            next,
+        },
+        ScanPlacesAnswer::At(places) => ScanAndNext {
+            scan: write_scan(
                 run,
-                format_of(h),
-                h.data as u64,
-                entry.offset,
-                entry.data_size,
-            ) {
-                DataAnswer::Refused(r) => ScanAnswer::Refused(r),
-                DataAnswer::Data(found) => hand_out(
-                    run,
-                    h,
-                    entry,
-                    at,
-                    found,
-                    preamble,
-                    precursors,
-                    energies,
-                    coefficients,
-                    mz,
-                    intensity,
-                ),
-            }
-        }
+                places,
+                preamble,
+                precursors,
+                energies,
+                coefficients,
+                mz,
+                intensity,
+            ),
+            next,
+        },
     }
 }

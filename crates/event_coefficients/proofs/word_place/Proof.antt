@@ -2,35 +2,24 @@
 use mathlib.Core.Path.{_∙_}
 use mathlib.Core.Logic.{⊎-elim}
 use borrow.Author.Tests.{eq-eqb, ne-eqb}
-use Rattle.event_coefficients.specs.Coefficients.{wordPlace}
-use Rattle.event_coefficients.proofs.Place.{no-window, window-at-64, primary-at-8, elsewhere}
+use Rattle.event_coefficients.proofs.Place.{window-at-64, primary-at-8, elsewhere}
 use borrow.Author.Needs.{needs}
 use Rattle.event_coefficients.proofs.word_place.Statement.{statement}
 use Rattle.event_coefficients.proofs.word_place.Tie as tie
 
 returns : tie.Need-returns
-unfolding wordPlace
-returns c = window-at-64 _ _ _ _ (c .before .enum-told2 .given .1) (c .if1 .taken)
+returns c = window-at-64 _ _ _ (c .if1 .taken)
 
 returns-2 : tie.Need-returns-2
-unfolding wordPlace
-returns-2 c =
-    let t2 = c .before .before in
-    primary-at-8 _ _ _ _ (t2 .before .before .enum-told2 .given .1) (t2 .if2 .taken) (c .before .if3 .taken) (c .if4 .taken)
+returns-2 c = primary-at-8 _ _ _ (c .before .before .if2 .taken) (c .before .if3 .taken) (c .if4 .taken)
 
 returns-3 : tie.Need-returns-3
-unfolding wordPlace
-returns-3 c = c .saturating-sub .ensures ∙ no-window _ _ _ _ (c .before .enum-told .given .1)
-
-returns-4 : tie.Need-returns-4
-unfolding wordPlace
-returns-4 c =
-    let e1 = c .before .before in
-    c .saturating-sub2 .ensures
-    ∙ elsewhere _ _ _ _ (e1 .before .enum-told2 .given .1) (e1 .if1 .left)
+returns-3 c =
+    c .saturating-sub .ensures
+    ∙ elsewhere _ _ _ (c .before .before .if1 .left)
     (⊎-elim (λ w. rw (eq-eqb _ 8 (w .0 .taken), w .1 .taken, w .2 .left))
     (⊎-elim (λ w. rw (eq-eqb _ 8 (w .0 .taken), w .1 .left)) (λ w. rw (ne-eqb _ 8 (w .left))))
     (c .before .if2 .came))
 
 pub word-place-spec : {M : Type 1} → statement M
-word-place-spec = tie.close (tie.spec (search needs) (search needs) (search needs) returns returns-2 (search needs) returns-3 returns-4)
+word-place-spec = tie.close (tie.spec returns returns-2 (search needs) returns-3)

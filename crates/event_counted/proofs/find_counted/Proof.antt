@@ -2,7 +2,7 @@
 use Prim.Native.Nat.{_+_}
 use native.Mathlib.Omega.{arith}
 use denote.Ref.{now}
-use Rattle.event_writer.proofs.Parts.{part-is}
+use Rattle.parser.proofs.Prefix.{part-is}
 use Rattle.event_counted.proofs.Answers.{short-preamble, short-body, wrong, found}
 use borrow.Author.Needs.{needs}
 use Rattle.event_counted.proofs.find_counted.Statement.{statement}
@@ -18,7 +18,7 @@ returns-2 : tie.Need-returns-2
 returns-2 c =
     let a = c .before .before .before .before .before .before .before .before .before .before .before .args in
     let j = c .before .before .before in
-    found _ _ _ (omega arith) (omega arith) (part-is (now (a .run)) (a .at) 136) (part-is (now (a .run)) (a .at + 136) (a .body-size)) _ (rw (c .before .lists .given .1) at (j .judge-body .ensures))
+    found _ _ _ (omega arith) (omega arith) (part-is (now (a .run)) (a .at) 136) (part-is (now (a .run)) (a .at + 136) (a .body-size)) (rw (c .before .lists .given .1) at (j .judge-body .ensures))
 
 returns-3 : tie.Need-returns-3
 returns-3 c = short-body _ _ _ (omega arith) (omega arith)

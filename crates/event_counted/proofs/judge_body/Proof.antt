@@ -25,7 +25,7 @@ returns-2 c =
     let j = c .before .before .before in
     let k = j .before in
     let all = sym (ap outcomeOfRecords (c .before .enum-told .given .1)) ∙ j .judge-records .ensures in
-    ap ok (c .judge .ensures) ∙ sound-records _ _ _ (omega arith) _ (k .before .u32-at .ensures) (k .kept-count .ensures) all
+    ap ok (c .lists-of .ensures) ∙ sound-records _ _ _ (omega arith) _ (k .before .u32-at .ensures) (k .kept-count .ensures) all
 
 returns-3 : tie.Need-returns-3
 returns-3 c = no-count _ _ _ (omega arith)

@@ -2,7 +2,7 @@
 use Prim.Native.Nat.{_+_}
 use native.Mathlib.Omega.{arith}
 use denote.Ref.{now}
-use Rattle.event_writer.proofs.Parts.{part-is}
+use Rattle.parser.proofs.Prefix.{part-is}
 use Rattle.event_from_66.proofs.Answers.{short-preamble, short-body, found}
 use borrow.Author.Needs.{needs}
 use Rattle.event_from_66.proofs.find_from_66.Statement.{statement}
@@ -13,7 +13,7 @@ returns c =
     let t = c .before .before .before in
     let s = t .before .before .before in
     let a = s .before .before .before .before .before .before .args in
-    found _ _ _ _ (omega arith) (part-is (now (a .run)) (a .at) 136) (s .before .is-primary .ensures) (s .body-size .ensures .0) _ (part-is (now (a .run)) (a .at + 136) (s .body-size .result)) (t .is-tribrid .ensures) (omega arith) (c .judge .ensures)
+    found _ _ _ _ (omega arith) (part-is (now (a .run)) (a .at) 136) (s .before .is-primary .ensures) (s .body-size .ensures .0) (part-is (now (a .run)) (a .at + 136) (s .body-size .result)) (t .is-tribrid .ensures) (omega arith) (c .lists-of .ensures)
 
 returns-2 : tie.Need-returns-2
 returns-2 c =

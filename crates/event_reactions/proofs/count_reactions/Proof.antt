@@ -1,6 +1,6 @@
 use mathlib.Core.Path.{sym}
 use Rattle.lists.proofs.Laws.{length-each}
-use Rattle.event_reactions.specs.Source.{inSource}
+use Rattle.event_reactions.specs.Reactions.{inSource}
 use borrow.Author.Needs.{needs}
 use Rattle.event_reactions.proofs.count_reactions.Statement.{statement}
 use Rattle.event_reactions.proofs.count_reactions.Tie as tie

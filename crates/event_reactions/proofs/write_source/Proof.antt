@@ -2,8 +2,8 @@ use mathlib.Core.Path.{sym, _∙_}
 use native.Mathlib.Omega.{arith}
 use denote.Ref.{now}
 use Rattle.lists.proofs.Laws.{fitting-all}
-use Rattle.event_reactions.specs.Reactions.{precursors, energies, reactionsIn}
-use Rattle.event_reactions.specs.Source.{inSource}
+use Rattle.lists.specs.Left.{firsts, seconds}
+use Rattle.event_reactions.specs.Reactions.{reactionsIn, inSource}
 use Rattle.event_reactions.proofs.Count.{length-precursors, length-energies}
 use Rattle.event_reactions.proofs.Sources.{every-precursor, every-energy}
 use borrow.Author.Needs.{needs}
@@ -34,8 +34,8 @@ returns-2 c =
     let start = v .before .before .before .before .before in
     let rs = reactionsIn (v .source2 .given .0 .0) (now (start .args .body)) in
     let is = v .source2 .given .1 in (
-      rw is (w .write-sought .ensures .0 ∙ sym (fitting-all (precursors rs) _ (rw length-precursors (rw is at (start .pre .0))))),
-      rw is (w .write-sought .ensures .1 ∙ sym (fitting-all (energies rs) _ (rw length-energies (rw is at (start .pre .1))))),
+      rw is (w .write-sought .ensures .0 ∙ sym (fitting-all (firsts rs) _ (rw length-precursors (rw is at (start .pre .0))))),
+      rw is (w .write-sought .ensures .1 ∙ sym (fitting-all (seconds rs) _ (rw length-energies (rw is at (start .pre .1))))),
     )
 
 pub write-source-spec : {M : Type 1} → statement M

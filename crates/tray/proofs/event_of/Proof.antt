@@ -1,43 +1,38 @@
--- `tray::event_of` meets its contract: the header, the number, and then the walk.
-use mathlib.Core.Path.{sym, ap, _∙_}
+-- The header, the number, and then the walk.
+use mathlib.Core.Path.{_≡_, sym, ap, _∙_}
 use native.Mathlib.Omega.{arith}
 use denote.Ref.{now}
-use Rattle.event_walk.specs.Walk.{eventPlace}
+use Rattle.refusal.specs.Outcome.{ok}
+use Rattle.events.specs.Event.{eventPlace}
 use Rattle.tray_header.specs.Header.{outcomeOf}
-use Rattle.tray_header.proofs.Found.{whole}
-use Rattle.tray.specs.Scan.{placeIn, placeOf}
-use Rattle.tray.proofs.Scans.{no-header, no-scan, in-scan, run-is}
+use Rattle.tray.specs.Scan.{headerWith, eventOf}
+use Rattle.tray.proofs.Headers.{with-size, with-few, run-is}
 use borrow.Author.Needs.{needs}
 use Rattle.tray.proofs.event_of.Statement.{statement}
 use Rattle.tray.proofs.event_of.Tie as tie
 
-returns : tie.Need-returns
-unfolding placeOf
-returns c =
-    let a = c .before .before .before .before .before .before .before .args in
-    no-scan 4096 6 (now (a .tray)) (placeIn (a .k)) (sym (ap outcomeOf (c .before .before .before .h .given .1)) ∙ c .before .before .before .before .before .read-tray-header .ensures) (a .k) (c .if1 .taken)
+header : (c : tie.After-known-told2) → ok (c .before .h .given .0 .0) ≡ headerWith 4096 6 (c .before .before .before .before .before .args .k) (now (c .before .before .before .before .before .args .tray))
+header c = sym (ap outcomeOf (c .before .h .given .1)) ∙ c .before .before .before .header-with .ensures
 
-sub-run : tie.Need-sub-run
-sub-run c = omega (arith, whole 4096 6 (now (c .before .before .before .before .before .before .before .args .tray)) (sym (ap outcomeOf (c .before .before .before .h .given .1)) ∙ c .before .before .before .before .before .read-tray-header .ensures) .size)
+sub-event-place : tie.Need-sub-event-place
+sub-event-place c = omega (arith, with-size 4096 6 _ _ (header c))
 
-part-run-start : tie.Need-part-run-start
-part-run-start c = omega (arith, whole 4096 6 (now (c .before .before .before .before .before .before .before .args .tray)) (sym (ap outcomeOf (c .before .before .before .h .given .1)) ∙ c .before .before .before .before .before .read-tray-header .ensures) .size)
+part-event-place-start : tie.Need-part-event-place-start
+part-event-place-start c = omega (arith, with-size 4096 6 _ _ (header c))
 
 cast-event-place-2 : tie.Need-cast-event-place-2
-cast-event-place-2 c = omega (arith, whole 4096 6 (now (c .before .before .before .before .before .before .before .before .before .args .tray)) (sym (ap outcomeOf (c .before .before .before .before .before .h .given .1)) ∙ c .before .before .before .before .before .before .before .read-tray-header .ensures) .few, c .before .before .if1 .left)
+cast-event-place-2 c = omega (arith, with-few 4096 6 _ _ (header (c .before .before)))
+
+returns : tie.Need-returns
+unfolding eventOf
+returns c = rw (← (sym (ap outcomeOf (c .before .r .given .1)) ∙ c .before .before .before .header-with .ensures))
 
 returns-2 : tie.Need-returns-2
-unfolding placeOf
-returns-2 c = let a = c .before .before .before .before .before .args in no-header 4096 6 (now (a .tray)) _ (sym (ap outcomeOf (c .before .r .given .1)) ∙ c .before .before .before .read-tray-header .ensures)
-
-returns-3 : tie.Need-returns-3
-unfolding placeOf placeIn eventPlace
-returns-3 c =
-    let a = c .before .before .before .before .before .before .before .before .before .before .args in
-    let h = c .before .before .before .before .before .before .h .given .0 .0 in
-    c .event-place .ensures
-    ∙ ap (eventPlace (h .version) (h .primary) (h .dependent) (h .events) (a .k)) (run-is (now (a .tray)))
-    ∙ in-scan 4096 6 (now (a .tray)) (placeIn (a .k)) (sym (ap outcomeOf (c .before .before .before .before .before .before .h .given .1)) ∙ c .before .before .before .before .before .before .before .before .read-tray-header .ensures) (a .k) (omega (arith, c .before .before .before .if1 .left))
+unfolding eventOf
+returns-2 c =
+    let a = c .before .before .before .before .before .before .before .before .args in
+    let h = c .before .before .before .before .h .given .0 .0 in
+    rw (← header (c .before .before .before)) (c .event-place .ensures ∙ ap (eventPlace (h .version) (h .primary) (h .dependent) (h .events) (a .k)) (run-is (now (a .tray))))
 
 pub event-of-spec : {M : Type 1} → statement M
-event-of-spec = tie.close (tie.spec (search needs) (search needs) (search needs) returns sub-run part-run-start (search needs) (search needs) cast-event-place-2 (search needs) returns-2 returns-3)
+event-of-spec = tie.close (tie.spec (search needs) (search needs) (search needs) sub-event-place part-event-place-start (search needs) (search needs) cast-event-place-2 (search needs) returns returns-2)
