@@ -1,13 +1,17 @@
-// Scans of a tray: the crate `tray`.
+// Answers the requests on scans of a tray and the places of their events: the crate `tray`.
 ghost use Prim.Native.Nat.{_≤_};
-use crate::answer;
-use crate::request;
-use crate::request::Lengths;
-use crate::request::U32;
-use crate::request::U64;
-use crate::scan_events;
-use crate::scan_events::EventLengths;
-use crate::scans;
+ghost use lib.ListN.{length};
+ghost use Rattle.probe_text.specs.Held.{held};
+use probe_events::scan_events;
+use probe_events::scan_events::EventLengths;
+use probe_scans::put_entry;
+use probe_text::Answered;
+use probe_text::answer;
+use probe_text::lent;
+use probe_text::request;
+use probe_text::request::Lengths;
+use probe_text::request::U32;
+use probe_text::request::U64;
 use tray::read_scan;
 use tray::read_scan_from;
 use tray_scan::Scan;
@@ -21,15 +25,19 @@ enum Reading {
 }
 
 // The fields of a scan.
-fn put_scan(out: &mut [u8], n: usize, scan: Scan) -> usize {
+fn put_scan(out: &mut [u8], n: usize, scan: Scan) -> usize
+    ensures { λ r. ⌜ r ≤ length (now (out .exit)) ⌝ }
+{
     let entry = scan.entry;
     let event = scan.event;
-    let n = scans::put_entry(out, n, entry);
+    let n = put_entry(out, n, entry);
     let n = scan_events::put_event(out, n, event);
     answer::number(out, n, scan.pairs)
 }
 
-fn put_answer(out: &mut [u8], n: usize, answer: ScanAnswer) -> usize {
+fn put_answer(out: &mut [u8], n: usize, answer: ScanAnswer) -> usize
+    ensures { λ r. ⌜ r ≤ length (now (out .exit)) ⌝ }
+{
     match answer {
         ScanAnswer::Scan(scan) => put_scan(out, n, scan),
         ScanAnswer::Refused(refusal) => answer::refused(out, n, refusal),
@@ -71,7 +79,7 @@ fn read(
     }
 }
 
-// The scan, and the slices that are lent for it, which are filled already.
+// The scan, and the slices that are lent for it.
 fn put_read(
     reading: Reading,
     tray: &[u8],
@@ -83,7 +91,9 @@ fn put_read(
     intensities: &mut [f64],
     out: &mut [u8],
     n: usize,
-) -> usize {
+) -> usize
+    ensures { λ r. ⌜ r ≤ length (now (out .exit)) ⌝ }
+{
     let answer = read(
         reading,
         tray,
@@ -111,21 +121,14 @@ fn lend(
 ) -> usize
     requires { ⌜ (event .preamble ≤ 256) × (event .precursors ≤ 64) × (event .energies ≤ 64) × (event .coefficients ≤ 64) ⌝ }
     requires { ⌜ (pairs .first ≤ 64) × (pairs .second ≤ 64) ⌝ }
+    ensures { λ r. ⌜ r ≤ length (now (out .exit)) ⌝ }
 {
-    let mut preamble = [0u8; 256];
-    let mut precursors = [0u64; 64];
-    let mut energies = [0u64; 64];
-    let mut coefficients = [0u64; 64];
-    let mut masses = [0.0f64; 64];
-    let mut intensities = [0.0f64; 64];
-    scan_events::fill_slices(
-        &mut preamble,
-        &mut precursors,
-        &mut energies,
-        &mut coefficients,
-    );
-    request::fill_f64(&mut masses);
-    request::fill_f64(&mut intensities);
+    let mut preamble = lent::u8s();
+    let mut precursors = lent::u64s();
+    let mut energies = lent::u64s();
+    let mut coefficients = lent::u64s();
+    let mut masses = lent::f64s();
+    let mut intensities = lent::f64s();
     let p = event.preamble;
     let q = event.precursors;
     let r = event.energies;
@@ -154,7 +157,9 @@ fn scan_by(
     data: &mut [u8],
     out: &mut [u8],
     n: usize,
-) -> usize {
+) -> usize
+    ensures { λ r. ⌜ r ≤ length (now (out .exit)) ⌝ }
+{
     let event = scan_events::lent_lengths(line, at);
     let pairs = request::lent_lengths(line, event.end);
     let count = request::bytes(line, pairs.end, data);
@@ -165,24 +170,91 @@ fn scan_by(
     lend(reading, tray, event, pairs, out, n)
 }
 
-pub(crate) fn scan(line: &[u8], at: usize, data: &mut [u8], out: &mut [u8], n: usize) -> usize {
+fn scan(line: &[u8], at: usize, data: &mut [u8], out: &mut [u8], n: usize) -> usize
+    ensures { λ r. ⌜ r ≤ length (now (out .exit)) ⌝ }
+{
     let k = request::number(line, at, U32);
-    let reading = Reading::Walked(request::narrow(k.value));
+    let reading = Reading::Walked(k.value as u32);
     scan_by(reading, line, k.end, data, out, n)
 }
 
-pub(crate) fn scan_from(
+fn scan_from(line: &[u8], at: usize, data: &mut [u8], out: &mut [u8], n: usize) -> usize
+    ensures { λ r. ⌜ r ≤ length (now (out .exit)) ⌝ }
+{
+    let k = request::number(line, at, U32);
+    let place = request::number(line, k.end, U64);
+    let reading = Reading::From {
+        k: k.value as u32,
+        place: place.value,
+    };
+    scan_by(reading, line, place.end, data, out, n)
+}
+
+fn event_of(line: &[u8], at: usize, data: &mut [u8], out: &mut [u8], n: usize) -> usize
+    ensures { λ r. ⌜ r ≤ length (now (out .exit)) ⌝ }
+{
+    let k = request::number(line, at, U32);
+    let count = request::bytes(line, k.end, data);
+    if count.end != line.len() {
+        return answer::bad(out, n);
+    }
+    let found = tray::event_of(request::front(data, count.value), k.value as u32);
+    answer::count(out, n, found)
+}
+
+fn next_event(line: &[u8], at: usize, data: &mut [u8], out: &mut [u8], n: usize) -> usize
+    ensures { λ r. ⌜ r ≤ length (now (out .exit)) ⌝ }
+{
+    let place = request::number(line, at, U64);
+    let count = request::bytes(line, place.end, data);
+    if count.end != line.len() {
+        return answer::bad(out, n);
+    }
+    let found = tray::next_event(request::front(data, count.value), place.value);
+    answer::count(out, n, found)
+}
+
+// The request words that are answered here.
+enum Keyword {
+    Scan,
+    ScanFrom,
+    EventOf,
+    NextEvent,
+    Unknown,
+}
+
+fn keyword_of(word: &[u8]) -> Keyword {
+    if check::same(word, b"scan") {
+        return Keyword::Scan;
+    }
+    if check::same(word, b"scan_from") {
+        return Keyword::ScanFrom;
+    }
+    if check::same(word, b"event_of") {
+        return Keyword::EventOf;
+    }
+    if check::same(word, b"next_event") {
+        return Keyword::NextEvent;
+    }
+    Keyword::Unknown
+}
+
+// Answers the request of a line whose first word is `word` and ends at `at`.
+pub fn answer_request(
+    word: &[u8],
     line: &[u8],
     at: usize,
     data: &mut [u8],
     out: &mut [u8],
     n: usize,
-) -> usize {
-    let k = request::number(line, at, U32);
-    let place = request::number(line, k.end, U64);
-    let reading = Reading::From {
-        k: request::narrow(k.value),
-        place: place.value,
-    };
-    scan_by(reading, line, place.end, data, out, n)
+) -> Answered
+    ensures { λ r. ⌜ held r ≤ length (now (out .exit)) ⌝ }
+{
+    match keyword_of(word) {
+        Keyword::Scan => Answered::Text(scan(line, at, data, out, n)),
+        Keyword::ScanFrom => Answered::Text(scan_from(line, at, data, out, n)),
+        Keyword::EventOf => Answered::Text(event_of(line, at, data, out, n)),
+        Keyword::NextEvent => Answered::Text(next_event(line, at, data, out, n)),
+        Keyword::Unknown => Answered::Unknown,
+    }
 }
