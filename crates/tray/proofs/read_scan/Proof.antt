@@ -5,7 +5,7 @@ use denote.Ref.{now}
 use Rattle.refusal.specs.Outcome.{ok}
 use Rattle.lists.proofs.Left.{left-refused, left-same}
 use Rattle.tray_header.specs.Header.{outcomeOf}
-use Rattle.tray_scan.specs.Scan.{placeOrEnd, scanAt}
+use Rattle.tray_scan.specs.Scan.{placeOrEnd}
 use Rattle.tray.specs.Scan.{headerWith}
 use Rattle.tray.proofs.Headers.{with-size, with-few, run-is}
 use Rattle.tray.proofs.Walk.{no-header-no-scan, scan-in}
