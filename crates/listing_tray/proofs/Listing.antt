@@ -11,7 +11,6 @@ use borrow.Author.Tests.{ltb-false}
 use Rattle.refusal.specs.Outcome.{Outcome, ok, refused, andThen}
 use Rattle.lists.specs.Left.{firsts, seconds}
 use Rattle.text.specs.Text.{ascii}
-use Rattle.events.specs.Event.{eventPlace}
 use Rattle.events.proofs.Steps.{place-none, place-more, none-after}
 use Rattle.pairs.specs.Pairs.{Pair}
 use Rattle.listing_lines.specs.Lines.{line}

@@ -1,7 +1,6 @@
 -- Demand 3 for the texts of the header and of a scan: a text that is not `X k 1 part` is also the text for all longer bytes,
 -- with every element of the lent slice, and `X k 1 part` is written only if there are longer bytes on which the text is another.
 use mathlib.Core.Path.{_≡_, refl, sym, ap, _∙_}
-use mathlib.Core.Logic.{inl, inr}
 use Prim.Native.Nat.{ℕ, _+_, _^_, _<_}
 use native.Mathlib.Omega.{arith}
 use mathlib.Core.List.{List, [], _∷_, _++_, append-assoc}

@@ -6,11 +6,11 @@ use mathlib.Core.List.{List}
 use lib.Ieee.{Float}
 use lib.ListN.{length, take, drop, length-map}
 use lib.Seq.{take-append-seam}
-use Rattle.refusal.specs.Outcome.{Outcome, ok}
+use Rattle.refusal.specs.Outcome.{ok}
 use Rattle.refusal.specs.Number.{number, carried}
 use Rattle.refusal.specs.declared.Refusal.{Refusal}
 use Rattle.lists.specs.Written.{over}
-use Rattle.lists.specs.Left.{Left, firsts, seconds, LeftListsAndPairs}
+use Rattle.lists.specs.Left.{firsts, seconds, LeftListsAndPairs}
 use Rattle.lists.proofs.Left.{wrote, stayed}
 use Rattle.lists.proofs.Laws.{length-over}
 use Rattle.pairs.specs.Pairs.{Pair}
@@ -20,7 +20,7 @@ use Rattle.tray_scan.specs.Scan.{WrittenScan, scanAt, outcomeOf}
 use Rattle.tray_scan.specs.declared.Scan.{Scan}
 use Rattle.tray_scan.specs.declared.ScanAnswer.{ScanAnswer}
 use Rattle.tray_scan.specs.declared.ScanAnswer.the-variants as answer
-use Rattle.tray_scan.proofs.Consistent.{Consistent, consistent}
+use Rattle.tray_scan.proofs.Consistent.{consistent}
 use Rattle.listing_tray.specs.Listing.{capacities, scanText}
 
 -- a refusal's line

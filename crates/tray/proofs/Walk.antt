@@ -1,9 +1,9 @@
 -- Going on from the event before gives the same answers: `event_of` says where event k stands, `next_event` leads from one to
 -- the next, and a scan read from there is the scan. Where event k has no place, any place after the end serves.
-use mathlib.Core.Path.{_≡_, refl, ap, sym, _∙_}
+use mathlib.Core.Path.{_≡_, refl, ap, sym}
 use Prim.Native.Nat.{ℕ, suc, _-_, _^_, _≤_, _<_}
 use native.Mathlib.Omega.{arith}
-use mathlib.Core.List.{List, []}
+use mathlib.Core.List.{List}
 use lib.ListN.{length, drop, length-drop}
 use Rattle.refusal.specs.Outcome.{Outcome, ok, refused, andThen}
 use Rattle.parser.specs.Parser.{Parser, _>>_, parse, repeat}
@@ -15,7 +15,7 @@ use Rattle.events.specs.Event.{eventEnd, eventPlace}
 use Rattle.events.proofs.Steps.{place-none, place-more, none-after}
 use Rattle.tray_header.specs.Header.{readHeader}
 use Rattle.tray_header.specs.declared.TrayHeader.{TrayHeader}
-use Rattle.tray_scan.specs.Scan.{eventIn, scanParts, scanIfFits, scanAt, endIn, placeOrEnd}
+use Rattle.tray_scan.specs.Scan.{eventIn, scanParts, scanIfFits, scanAt, placeOrEnd}
 use Rattle.tray_scan.proofs.Parts.{same-event}
 use Rattle.tray.specs.Scan.{overRun, headerWith, readScan, readScanFrom, eventOf, nextEvent}
 use Rattle.tray.proofs.Headers.{has-scan}
@@ -55,10 +55,6 @@ module _ (h : TrayHeader) (k : ℕ) (s : List ℕ) where
       go : (o : Outcome ℕ) → o ≡ placeIn → outcome (scanParts h k (placeOrEnd o) (eventIn h)) s ≡ outcome (scanParts h k (h .events) kth) s
       go (ok at) i = from-place i
       go (refused n carries) i = from-end i (2 ^ 64 - 1) (omega arith)
-
-then-same : {A B : Type 0} (f g : A → Outcome B) → ((a : A) → f a ≡ g a) → (o : Outcome A) → andThen o f ≡ andThen o g
-then-same f g h (ok a) = h a
-then-same f g h (refused n carries) = refl
 
 -- ---- in a tray, whatever its limit of scans is
 module _ (limit number : ℕ) (s : List ℕ) where

@@ -1,8 +1,10 @@
 // Scan k of a tray, and where its events stand. The header is read once by each call.
 ghost use mathlib.Core.Path.{_≡_};
 ghost use mathlib.Core.List.{[], _∷_};
+ghost use Prim.Native.Nat.{_<_};
 ghost use Rattle.refusal.specs.Number.{outcomeOfCount};
 ghost use Rattle.lists.specs.Left.{LeftListsAndPairs};
+ghost use Rattle.events.specs.Event.{eventPlace};
 ghost use Rattle.tray_header.specs.Header.{outcomeOf as outcomeOfHeader};
 ghost use Rattle.tray_scan.specs.Scan.{placeOrEnd, outcomeOf};
 ghost use Rattle.tray.specs.Scan.{headerWith, readScan, readScanFrom, eventOf, nextEvent};
@@ -10,6 +12,7 @@ use events::event_end;
 use events::event_place;
 use refusal::CountAnswer;
 use refusal::Refusal;
+use tray_header::TrayHeader;
 use tray_header::TrayHeaderAnswer;
 use tray_header::read_tray_header;
 use tray_scan::ScanAnswer;
@@ -49,7 +52,7 @@ pub fn read_scan_from(
     match header_with(tray, k) {
         TrayHeaderAnswer::Refused(r) => ScanAnswer::Refused(r),
         TrayHeaderAnswer::Header(h) => {
-            let step = scan_at(
+            let read = scan_at(
                 &tray[32..],
                 h,
                 k,
@@ -61,9 +64,24 @@ pub fn read_scan_from(
                 mz,
                 intensity,
             );
-            step.scan
+            read.scan
         }
     }
+}
+
+// Where event k stands in a run.
+fn find_place(run: &[u8], h: TrayHeader, k: u32) -> CountAnswer
+    requires { ⌜ k < 4096 ⌝ }
+    ensures { λ r. ⌜ outcomeOfCount r ≡ eventPlace (h .version) (h .primary) (h .dependent) (h .events) k (now (run .entry)) ⌝ }
+{
+    event_place(
+        run,
+        h.events as u64,
+        k as u16,
+        h.version,
+        h.primary,
+        h.dependent,
+    )
 }
 
 // Where event k stands in the run.
@@ -72,14 +90,7 @@ pub fn event_of(tray: &[u8], k: u32) -> CountAnswer
 {
     match header_with(tray, k) {
         TrayHeaderAnswer::Refused(r) => CountAnswer::Refused(r),
-        TrayHeaderAnswer::Header(h) => event_place(
-            &tray[32..],
-            h.events as u64,
-            k as u16,
-            h.version,
-            h.primary,
-            h.dependent,
-        ),
+        TrayHeaderAnswer::Header(h) => find_place(&tray[32..], h, k),
     }
 }
 
@@ -124,19 +135,12 @@ pub fn read_scan(
         TrayHeaderAnswer::Refused(r) => ScanAnswer::Refused(r),
         TrayHeaderAnswer::Header(h) => {
             let run = &tray[32..];
-            let found = event_place(
-                run,
-                h.events as u64,
-                k as u16,
-                h.version,
-                h.primary,
-                h.dependent,
-            );
-            let step = scan_at(
+            let at = place_or_end(find_place(run, h, k));
+            let read = scan_at(
                 run,
                 h,
                 k,
-                place_or_end(found),
+                at,
                 preamble,
                 precursors,
                 energies,
@@ -144,7 +148,7 @@ pub fn read_scan(
                 mz,
                 intensity,
             );
-            step.scan
+            read.scan
         }
     }
 }

@@ -1,5 +1,5 @@
 -- The data of a scan, by the format of its run: a packet, flat peaks or an SRM scan; and the pairs that they give.
-use Prim.Native.Nat.{ℕ, _+_, _-_, _^_, min}
+use Prim.Native.Nat.{ℕ}
 use mathlib.Core.Bool.{false}
 use mathlib.Core.List.{List, []}
 use Rattle.refusal.specs.Outcome.{Outcome, ok, refused, onOk}

@@ -3,9 +3,7 @@ use mathlib.Core.Path.{refl, sym}
 use native.Mathlib.Omega.{arith}
 use lib.ListN.{length-take}
 use denote.Ref.{now}
-use Rattle.listing_tray.specs.Listing.{capacities, scanText}
-use Rattle.tray_scan.specs.Scan.{scanAt}
-use Rattle.listing_tray.proofs.Texts.{refused-text, Listed, listed}
+use Rattle.listing_tray.proofs.Texts.{refused-text, listed}
 use borrow.Author.Needs.{needs}
 use Rattle.listing_tray.proofs.list_scan.Statement.{statement}
 use Rattle.listing_tray.proofs.list_scan.Tie as tie

@@ -5,7 +5,6 @@ use denote.Ref.{now}
 use Rattle.refusal.specs.Outcome.{ok}
 use Rattle.lists.proofs.Left.{left-refused, left-same}
 use Rattle.tray_header.specs.Header.{outcomeOf}
-use Rattle.tray_scan.specs.Scan.{scanAt}
 use Rattle.tray.specs.Scan.{headerWith}
 use Rattle.tray.proofs.Headers.{with-size, no-run, in-run, run-is}
 use borrow.Author.Needs.{needs}
