@@ -38,8 +38,8 @@ abbrev pub outcomeOfThere : BytesAnswer → Outcome (Unit {0})
 outcomeOfThere there.There = ok tt
 outcomeOfThere there.Short = refused 1 []
 
--- a call that reads by p was lent the reader r: it tells `outcomeOf`, and leaves r after what was read, over the same bytes
-pub record Moves {A : Type 0} (p : Parser A) (r : BinaryReader) (outcomeOf : Outcome A) (r′ : BinaryReader) : Type 0 where
-  pub answered : outcomeOf ≡ reads (parse p (now (r .bytes)) (r .place))
+-- a call that reads by p was lent the reader r: its answer has the outcome o, and it leaves r after what was read, over the same bytes
+pub record Moves {A : Type 0} (p : Parser A) (r : BinaryReader) (o : Outcome A) (r′ : BinaryReader) : Type 0 where
+  pub answered : o ≡ reads (parse p (now (r .bytes)) (r .place))
   pub bytes : r′ .bytes ≡ r .bytes
   pub place : r′ .place ≡ placeAfter (r .place) (parse p (now (r .bytes)) (r .place))

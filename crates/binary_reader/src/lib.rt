@@ -4,7 +4,7 @@
 // does not go through a struct that holds a slice by itself, so their proofs are written by hand, and the decoder's own functions
 // take the slice and the place.
 ghost use mathlib.Core.Path.{_≡_};
-ghost use Rattle.parser.specs.Parser.{bytes, littleEndian, parse, word, skip, checkCount, wordAt};
+ghost use Rattle.parser.specs.Parser.{bytes, parse, word, skip, checkCount, wordAt};
 ghost use Rattle.binary_reader.specs.Read.{width, outcomeOf, outcomeOfThere, reads, placeAfter, Moves};
 use reader::remaining;
 use reader::u8_at;

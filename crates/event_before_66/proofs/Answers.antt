@@ -1,16 +1,15 @@
 -- What finding an event below version 66 answers, by the tests that decide it, and that it is the event which is read.
 use mathlib.Core.Path.{_≡_, refl, sym, ap, _∙_}
-use mathlib.Core.Logic.{⊎-elim}
 use Prim.Native.Nat.{ℕ, _+_, _*_, _-_, _≤_, _<_}
 use mathlib.Core.List.{List}
 use native.Mathlib.Omega.{arith}
 use lib.Dec.{leb}
 use lib.ListN.{length}
 use borrow.Author.Tests.{leb-true, le-leb, lt-leb}
-use Rattle.refusal.specs.Outcome.{ok, ranOut}
+use Rattle.refusal.specs.Outcome.{ranOut}
 use Rattle.lists.specs.Written.{each}
 use Rattle.lists.proofs.Laws.{each-below}
-use Rattle.parser.specs.Parser.{Parser, done, short, parsed, within, parse, bytes, littleEndian, wordAt, left, word, repeat, counted, _>>=_}
+use Rattle.parser.specs.Parser.{done, short, parsed, within, parse, bytes, littleEndian, wordAt, left, word, repeat, counted, _>>=_}
 use Rattle.parser.specs.Call.{outcome}
 use Rattle.parser.proofs.Prefix.{within-parsed, parse-assoc, bytes-in}
 use Rattle.parser.proofs.Fixed.{parse-stage}

@@ -4,7 +4,8 @@ use Prim.Native.Nat.{ℕ, suc}
 use mathlib.Core.Bool.{Bool, true, false, _&&_, not, cond}
 use mathlib.Core.List.{List}
 use lib.Dec.{leb, eqb}
-use lib.ListN.{length, getD}
+use lib.ListN.{length}
+use Rattle.parser.specs.Parser.{wordAt}
 use Rattle.codes.specs.Codes.{codeOf, activationOf}
 use Rattle.codes.specs.declared.Family.{Family}
 use Rattle.codes.specs.declared.Family.the-variants.{Analyzer, Polarity, ScanMode, MsPower, ScanType, Ionization}
@@ -14,9 +15,9 @@ use Rattle.codes.specs.declared.Activation.{Activation}
 use Rattle.codes.specs.declared.Activation.the-variants as activation
 use Rattle.event_preamble.specs.declared.ScanEventPreamble.{ScanEventPreamble}
 
--- `bytes.get(i)` with 0 for none: the bytes after the end are 0
+-- `bytes.get(i)` with 0 for none: bytes after the end count as 0
 abbrev pub byte : List ℕ → ℕ → ℕ
-byte p i = getD p i 0
+byte p i = wordAt p i 1
 
 -- the code of a family at byte i
 abbrev pub codeAt : Family → List ℕ → ℕ → Code

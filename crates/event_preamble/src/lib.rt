@@ -37,18 +37,11 @@ pub struct ScanEventPreamble {
     pub analyzer: Code,
 }
 
-// The byte at a place, 0 after the end.
-pub fn byte_at(bytes: &[u8], i: u64) -> u8
-    ensures { λ r. ⌜ r ≡ byte (now (bytes .entry)) i ⌝ }
-{
-    u8_at(bytes, i)
-}
-
 fn code_at(family: Family, bytes: &[u8], i: u64) -> Code
     ensures { λ r. ⌜ r ≡ codeAt family (now (bytes .entry)) i ⌝ }
 {
     if i < bytes.len() as u64 {
-        codes::decode(family, byte_at(bytes, i) as u32)
+        codes::decode(family, u8_at(bytes, i) as u32)
     } else {
         Code::None
     }
@@ -58,7 +51,7 @@ fn code_at(family: Family, bytes: &[u8], i: u64) -> Code
 fn is_set(bytes: &[u8], i: u64) -> bool
     ensures { λ r. ⌜ r ≡ isSet (now (bytes .entry)) i ⌝ }
 {
-    byte_at(bytes, i) == 1
+    u8_at(bytes, i) == 1
 }
 
 pub fn polarity(bytes: &[u8]) -> Code
@@ -95,14 +88,14 @@ pub fn is_dependent(bytes: &[u8]) -> bool
 pub fn is_dia(bytes: &[u8]) -> bool
     ensures { λ r. ⌜ r ≡ isDia (now (bytes .entry)) ⌝ }
 {
-    byte_at(bytes, 6) >= 2 && !is_dependent(bytes)
+    u8_at(bytes, 6) >= 2 && !is_dependent(bytes)
 }
 
 // Whether the event's body has the primary size.
 pub fn is_primary(bytes: &[u8]) -> bool
     ensures { λ r. ⌜ r ≡ isPrimary (now (bytes .entry)) ⌝ }
 {
-    byte_at(bytes, 6) <= 1 && !is_dependent(bytes)
+    u8_at(bytes, 6) <= 1 && !is_dependent(bytes)
 }
 
 pub fn ionization(bytes: &[u8]) -> Code
@@ -129,7 +122,7 @@ pub fn activation(bytes: &[u8]) -> Activation
     ensures { λ r. ⌜ r ≡ activationAt (now (bytes .entry)) ⌝ }
 {
     let base = Activation::from_byte(activation_byte(bytes));
-    if bytes.len() == 136 && byte_at(bytes, 6) >= 2 && named(base) && byte_at(bytes, 120) == 1 {
+    if bytes.len() == 136 && u8_at(bytes, 6) >= 2 && named(base) && u8_at(bytes, 120) == 1 {
         Activation::ETD
     } else {
         base
@@ -139,7 +132,7 @@ pub fn activation(bytes: &[u8]) -> Activation
 pub fn activation_byte(bytes: &[u8]) -> u8
     ensures { λ r. ⌜ r ≡ byte (now (bytes .entry)) 24 ⌝ }
 {
-    byte_at(bytes, 24)
+    u8_at(bytes, 24)
 }
 
 pub fn is_wideband(bytes: &[u8]) -> bool

@@ -1,13 +1,12 @@
 -- A preamble of 136 bytes and a body, by the tests that decide whether they are there.
-use mathlib.Core.Path.{_≡_, refl, sym, _∙_}
+use mathlib.Core.Path.{_≡_}
 use Prim.Native.Nat.{ℕ, _+_, _-_, _^_, _≤_, _<_}
 use native.Mathlib.Omega.{arith}
 use mathlib.Core.List.{List}
 use lib.Dec.{leb}
-use lib.ListN.{length}
 use borrow.Author.Tests.{leb-true, le-leb, lt-leb}
 use Rattle.refusal.specs.Outcome.{Outcome, ranOut}
-use Rattle.parser.specs.Parser.{done, parsed, parse, bytes, left, _>>=_}
+use Rattle.parser.specs.Parser.{done, parse, bytes, left, _>>=_}
 use Rattle.parser.specs.Call.{outcome, single}
 use Rattle.parser.proofs.Prefix.{within-parsed}
 use Rattle.parser.proofs.Completion.{zeros, invariant-any}

@@ -1,6 +1,6 @@
 -- An event that was found is the one that its layout reads.
 use mathlib.Core.Path.{_≡_, refl, _∙_}
-use Prim.Native.Nat.{ℕ, _+_, _-_, _≤_}
+use Prim.Native.Nat.{ℕ, _-_, _≤_}
 use native.Mathlib.Omega.{arith}
 use mathlib.Core.List.{List}
 use lib.ListN.{length, length-take, length-drop}
@@ -10,7 +10,7 @@ use Rattle.parser.specs.Call.{onward, outcome, single, partAt}
 use Rattle.parser.proofs.Prefix.{after, parse-bind}
 use Rattle.parser.proofs.Answered.{part-then}
 use Rattle.event_record.specs.Event.{Event}
-use Rattle.event_record.specs.Places.{eventIn, eventAt, placesOf, findBy}
+use Rattle.event_record.specs.Places.{eventAt, placesOf, findBy}
 use Rattle.event_record.specs.declared.Lists.{Lists}
 use Rattle.event_record.specs.declared.Places.{Places}
 

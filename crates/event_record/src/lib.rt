@@ -6,11 +6,11 @@ use codes::Activation;
 use codes::analyzer;
 use codes::ms_power;
 use event_preamble::ScanEventPreamble;
-use event_preamble::byte_at;
 use event_reactions::Source;
 use event_window::FoundWindow;
 use event_window::Window;
 use float_bits::f64_of_bits;
+use reader::u8_at;
 use refusal::Refusal;
 
 pub struct ScanEvent {
@@ -80,8 +80,8 @@ fn with_precursor(precursors: &[u64]) -> u64
 fn has_supplemental_reaction(preamble: &[u8], precursors: &[u64]) -> bool
     ensures { λ r. ⌜ r ≡ supplemental (now (preamble .entry)) (now (precursors .entry)) ⌝ }
 {
-    byte_at(preamble, 6) as u32 == ms_power::MS2
-        && byte_at(preamble, 40) as u32 == analyzer::FTMS
+    u8_at(preamble, 6) as u32 == ms_power::MS2
+        && u8_at(preamble, 40) as u32 == analyzer::FTMS
         && precursors.len() >= 2
         && with_precursor(precursors) == 1
 }

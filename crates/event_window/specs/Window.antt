@@ -4,7 +4,6 @@ use mathlib.Core.Bool.{Bool, true, false, _&&_, cond}
 use mathlib.Core.List.{List, [], _∷_, map}
 use lib.Ieee.{Float, le}
 use lib.Ieee.Scale.{finite}
-use lib.ListN.{length}
 use lib.Dec.{leb}
 use Rattle.float_bits.specs.Numbers.{ratio, largestMass}
 use Rattle.lists.specs.Filter.{filter, firstOr}

@@ -12,7 +12,7 @@ use Rattle.event_window.specs.declared.Window.the-variants.{Ends}
 use Rattle.calibration.specs.Convert.{freqToMz}
 use Rattle.float_narrow.specs.Narrow.{narrow}
 use Rattle.noise.specs.Line.{noiseAt, noiseOf, past, between, fraction}
-use Rattle.noise.specs.Nodes.{Words}
+use Rattle.noise.specs.Nodes.{NodeBits}
 use Rattle.noise.specs.declared.NoiseAnswer.the-variants.{Values}
 use Rattle.float_ten_thousandths.specs.TenThousandths.{scaled, tenThousandths}
 use Rattle.float_bits.specs.Numbers.{largestMass}
@@ -42,10 +42,10 @@ threeHalves = fin false 3 (negsuc 0)
 abbrev mass : Float
 mass = fin false 16001 (negsuc 4)
 
-abbrev node : ℕ → ℕ → ℕ → Words
+abbrev node : ℕ → ℕ → ℕ → NodeBits
 node mz noise baseline = record { mz = bits32 mz; noise = bits32 noise; baseline = bits32 baseline }
 
-abbrev nodes : List Words
+abbrev nodes : List NodeBits
 nodes = node 100 1 3 ∷ node 200 2 5 ∷ []
 
 -- a and b are coefficients that don't count, and cs are any at all

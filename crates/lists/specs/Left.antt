@@ -21,7 +21,7 @@ pub record Left {A B L : Type 0} (answer : A → B) (write : A → L → L) (o :
   pub answered : r ≡ onOk answer o
   pub stands : ys ≡ after write o xs
 
--- each count is at most the capacity of its slice
+-- each count is at most the capacity of its slice, and there is a slice for each
 abbrev pub fits : List ℕ → List ℕ → Bool
 fits [] capacities = true
 fits (n ∷ ns) [] = false

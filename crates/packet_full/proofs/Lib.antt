@@ -1,4 +1,4 @@
 pub mod Writing
-pub mod HandOut
+pub mod WithChunks
 pub mod Answers
 pub mod LongerBytes

@@ -13,16 +13,16 @@ use Rattle.packet_record.proofs.LongerBytes.{fits-not-truncated, lists-longer}
 use Rattle.packet_places.specs.Packet.{packet}
 use Rattle.packet_places.specs.Places.{packetPlaces}
 use Rattle.packet_places.proofs.LongerBytes.{packet-bounded}
-use Rattle.packet_full.specs.Full.{chunkLists, chunksOf, readPacket}
+use Rattle.packet_full.specs.Full.{chunkLists, chunksIn, readPacket}
 
 module _ (at : ℕ) where
   module _ (capacities : List ℕ) where
     given : Packet → ℕ → Outcome ((ScanDataPacket × List ℕ) × List (List ℕ))
-    given p _ = packetIfFits capacities (packetPlaces at p) (p .contents) (chunkLists (chunksOf (p .profile)))
+    given p _ = packetIfFits capacities (packetPlaces at p) (p .contents) (chunkLists (chunksIn (p .profile)))
 
     given-not-truncated : (p : Packet) (next : ℕ) → NotTruncated (given p next)
     unfolding given
-    given-not-truncated p _ = fits-not-truncated capacities (packetPlaces at p) (p .contents) (chunkLists (chunksOf (p .profile)))
+    given-not-truncated p _ = fits-not-truncated capacities (packetPlaces at p) (p .contents) (chunkLists (chunksIn (p .profile)))
 
     pub packet-prefix : PrefixProperty (readPacket capacities at)
     unfolding readPacket given

@@ -17,11 +17,11 @@ signals (c ∷ cs) = c .signal ++ signals cs
 abbrev pub chunkLists : List Chunk → List (List ℕ)
 chunkLists cs = map (λ c. c .firstBin) cs ∷ map points cs ∷ map (λ c. c .fudge) cs ∷ signals cs ∷ []
 
-abbrev pub chunksOf : OptionalProfile → List Chunk
-chunksOf absent = []
-chunksOf (present p) = p .1
+abbrev pub chunksIn : OptionalProfile → List Chunk
+chunksIn absent = []
+chunksIn (present p) = p .1
 
 -- what `read_packet` answers for the packet at `at`, where slices of these capacities are lent
 unfoldable pub readPacket : List ℕ → ℕ → List ℕ → Outcome ((ScanDataPacket × List ℕ) × List (List ℕ))
 readPacket capacities at run =
-    outcome (single 4 at packet (λ p _. packetIfFits capacities (packetPlaces at p) (p .contents) (chunkLists (chunksOf (p .profile))))) run
+    outcome (single 4 at packet (λ p _. packetIfFits capacities (packetPlaces at p) (p .contents) (chunkLists (chunksIn (p .profile))))) run

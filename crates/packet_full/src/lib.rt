@@ -11,9 +11,9 @@ use packet_profile::Profile;
 use packet_profile::fudge_at;
 use packet_profile::head_size;
 use packet_record::PacketAnswer;
+use packet_record::PacketPlaces;
+use packet_record::PacketPlacesAnswer;
 use packet_record::PacketProfile;
-use packet_record::Places;
-use packet_record::PlacesAnswer;
 use reader::copy_u32s;
 use reader::u32_at;
 use refusal::Refusal;
@@ -92,9 +92,9 @@ fn write_profile(
 }
 
 // A packet whose places are known, and whose profile is there, where all eight slices hold it.
-fn hand_out(
+fn write_with_chunks(
     run: &[u8],
-    places: Places,
+    places: PacketPlaces,
     mz: &mut [u64],
     abundance: &mut [u32],
     descriptors: &mut [u32],
@@ -123,7 +123,7 @@ fn hand_out(
         bins.len() as u64,
         holds(n, counts.len() as u64, values_fit),
     ) {
-        match packet_record::hand_out(run, places, mz, abundance, descriptors, resolutions) {
+        match packet_record::write_packet(run, places, mz, abundance, descriptors, resolutions) {
             PacketAnswer::Refused(r) => PacketAnswer::Refused(r),
             PacketAnswer::Packet(packet) => {
                 write_profile(run, profile, bins, counts, fudges, signal);
@@ -154,8 +154,8 @@ pub fn read_packet(
         (now (mz .exit) ∷ now (abundance .exit) ∷ now (descriptors .exit) ∷ now (resolutions .exit) ∷ now (bins .exit) ∷ now (counts .exit) ∷ now (fudges .exit) ∷ now (signal .exit) ∷ []) ⌝ }
 {
     match find_places(run, at) {
-        PlacesAnswer::Refused(r) => PacketAnswer::Refused(r),
-        PlacesAnswer::Places(places) => hand_out(
+        PacketPlacesAnswer::Refused(r) => PacketAnswer::Refused(r),
+        PacketPlacesAnswer::Places(places) => write_with_chunks(
             run,
             places,
             mz,

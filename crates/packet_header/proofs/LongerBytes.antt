@@ -3,36 +3,22 @@ use mathlib.Core.Path.{_≡_}
 use Prim.Native.Nat.{ℕ, _^_, _-_, _<_}
 use lib.Dec.{lit≤}
 use Rattle.refusal.specs.Outcome.{ok}
-use Rattle.parser.specs.Call.{single}
-use Rattle.parser.specs.LongerBytes.{OnLongerBytes, PrefixProperty, Names, Completes}
-use Rattle.parser.proofs.Completion.{Bounded, bounded-sized, ValueInvariant, invariant-word}
+use Rattle.parser.specs.LongerBytes.{OnLongerBytes}
+use Rattle.parser.proofs.Completion.{ValueInvariant, invariant-word}
 use Rattle.parser.proofs.DemandBound.{DemandBound, Any, demand-sized, demand-known}
-use Rattle.parser.proofs.Calls.{prefix-property, only-part, single-completes}
-use Rattle.parser.proofs.OnLongerBytes.{one-part, plain-longer}
+use Rattle.parser.proofs.Records.{OnePart, record-part}
 use Rattle.packet_header.specs.Header.{header, readHeader, outcomeOf}
 use Rattle.packet_header.specs.declared.PacketHeader.{PacketHeader}
 use Rattle.packet_header.proofs.Size.{header-sized}
 use Rattle.packet_header.proofs.OneAnswer.{header-answer-one}
 
-pub header-bounded : Bounded (2 ^ 62) (2 ^ 61) header
-header-bounded = bounded-sized (2 ^ 62) 40 (2 ^ 61) header (lit≤ tt) header-sized
-
-pub header-prefix : (at : ℕ) → PrefixProperty (readHeader at)
+pub header-part : (at : ℕ) → OnePart outcomeOf 4 at (readHeader at)
 unfolding readHeader
-header-prefix at = prefix-property (single 4 at header (λ h _. ok h))
+header-part at = record-part 4 at header (λ h _. ok h) 40 header-sized outcomeOf header-answer-one (lit≤ tt) (λ _ _. tt)
 
-pub header-completes : (at : ℕ) → Completes 4 at (readHeader at)
-unfolding readHeader
-header-completes at = single-completes 4 at header (λ h _. ok h) header-bounded (λ _ _. tt)
-
-pub header-names : (at : ℕ) → Names (λ q. q ≡ 4) (readHeader at)
-unfolding readHeader
-header-names at = only-part 4 at header (λ h _. ok h) (λ _ _. tt)
-
+-- the terms' sentences, on what `PacketHeader::read` answers
 pub header-longer : (at : ℕ) → OnLongerBytes outcomeOf (λ s r (_ : Unit {0}). outcomeOf r ≡ readHeader at s) (λ q. q ≡ 4) (λ _ _. at < 2 ^ 62)
-header-longer at =
-    plain-longer outcomeOf header-answer-one (readHeader at) (header-prefix at) (λ q. q ≡ 4) (λ _ _. at < 2 ^ 62) (header-names at)
-    (one-part 4 at (readHeader at) (header-names at) (header-completes at))
+header-longer at = header-part at .longer
 
 -- sizes that were read are below 2^32
 pub record Sizable (h : PacketHeader) : Type 0 where

@@ -1,15 +1,11 @@
 -- A header is of one size, so one test decides its answer.
-use mathlib.Core.Path.{_≡_, sym, _∙_}
+use mathlib.Core.Path.{_≡_, ap, _∙_}
 use Prim.Native.Nat.{ℕ, _+_, _≤_, _<_}
 use mathlib.Core.List.{List}
-use lib.Dec.{leb}
-use borrow.Author.Tests.{leb-true, le-leb, lt-leb}
 use Rattle.refusal.specs.Outcome.{ok, refused, ranOut}
 use Rattle.parser.specs.Parser.{short, parsed, left, parse}
-use Rattle.parser.specs.Call.{outcome}
 use Rattle.parser.specs.Internal.{Sized, value}
-use Rattle.parser.proofs.Prefix.{within-parsed}
-use Rattle.parser.proofs.Fixed.{parse-sized}
+use Rattle.parser.proofs.Records.{record-short, record-whole, sized-read}
 use Rattle.parser.proofs.Answered.{found, ran-out}
 use Rattle.packet_header.specs.Header.{header, readHeader}
 use Rattle.packet_header.specs.declared.PacketHeader.{PacketHeader}
@@ -20,20 +16,20 @@ header-sized = λ _ _ _ _ _ _ _ _ _ _. tt
 
 module _ (s : List ℕ) (at : ℕ) where
   pub header-short : left s at < 40 → ranOut 4 ≡ readHeader at s
-  unfolding readHeader outcome
-  header-short h = rw (parse-sized 40 header header-sized s at, lt-leb _ _ h)
+  unfolding readHeader
+  header-short = record-short 4 at header (λ h _. ok h) 40 header-sized s
 
   pub header-whole : 40 ≤ left s at → {h : PacketHeader} → h ≡ value header s at 0 → ok h ≡ readHeader at s
-  unfolding readHeader outcome
-  header-whole t p = rw (parse-sized 40 header header-sized s at, le-leb _ _ t, p)
+  unfolding readHeader
+  header-whole t e = record-whole 4 at header (λ h _. ok h) 40 header-sized s t (ap ok e)
 
   -- a header that was read stands there
   pub header-read : {h : PacketHeader} → ok h ≡ readHeader at s → (40 ≤ left s at) × (parse header s at ≡ parsed h (at + 40))
   unfolding readHeader
   header-read {h} e =
       let f = found 4 at header (λ (v : PacketHeader) _. v) s e in
-      let w = within-parsed (leb 40 (left s at)) _ (sym (parse-sized 40 header header-sized s at) ∙ f .there) in
-      (leb-true 40 (left s at) (w .0), f .there ∙ cc (w .1, f .made))
+      let w = sized-read 40 header header-sized s at (f .there) in
+      (w .0, f .there ∙ cc (f .made, w .2))
 
   pub header-ran-out : {n : ℕ} {carries : List ℕ} → refused n carries ≡ readHeader at s → parse header s at ≡ short
   unfolding readHeader

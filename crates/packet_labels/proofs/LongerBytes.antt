@@ -36,10 +36,10 @@ longer-from says o =
     }
 
 -- a call whose answer is promised with what stands at its places
-pub places-longer : {R A B : Type 0} (outcomeOf : R → Outcome A) → ((r q : R) → outcomeOf r ≡ outcomeOf q → r ≡ q) → (stands : List ℕ → A → B) (f : List ℕ → Outcome (A × B))
+pub standing-longer : {R A B : Type 0} (outcomeOf : R → Outcome A) → ((r q : R) → outcomeOf r ≡ outcomeOf q → r ≡ q) → (stands : List ℕ → A → B) (f : List ℕ → Outcome (A × B))
     → PrefixProperty f → (number at : ℕ) → Names (λ q. q ≡ number) f → Completes number at f
     → OnLongerBytes outcomeOf (λ s r (_ : Unit {0}). onOk (λ a. (a, stands s a)) (outcomeOf r) ≡ f s) (λ q. q ≡ number) (λ _ _. at < 2 ^ 62)
-places-longer {R} {A} {B} outcomeOf one stands f prefix number at names completes =
+standing-longer {R} {A} {B} outcomeOf one stands f prefix number at names completes =
     let answer : A × B → A = λ p. p .0 in
     let call : List ℕ → Outcome A = λ s. onOk answer (f s) in
     let named : Names (λ q. q ≡ number) call = λ s part e. names s part (on-ok-out answer (f s) e) in
@@ -68,4 +68,4 @@ module _ (h : PacketHeader) (n at : ℕ) where
       (bounded-more (2 ^ 62) (3 * 2 ^ 34) (2 ^ 61) (labels h n) (lit≤ tt) (labels-demand (2 ^ 62) h n size .bounded)) (λ _ _. tt)
 
   pub labels-longer : Sizable h → OnLongerBytes outcomeOf (λ s r (_ : Unit {0}). onOk (λ l. (l, streamsAt s l)) (outcomeOf r) ≡ readLabels h n at s) (λ q. q ≡ 4) (λ _ _. at < 2 ^ 62)
-  labels-longer size = places-longer outcomeOf labels-answer-one streamsAt (readLabels h n at) labels-prefix 4 at labels-names (labels-completes size)
+  labels-longer size = standing-longer outcomeOf labels-answer-one streamsAt (readLabels h n at) labels-prefix 4 at labels-names (labels-completes size)

@@ -14,9 +14,9 @@ use Rattle.packet_labels.specs.declared.Labels.{Labels}
 use Rattle.packet_labels.specs.declared.LabelsAnswer.{LabelsAnswer}
 use Rattle.packet_labels.specs.declared.LabelsAnswer.the-variants as answer
 
--- a stream of so many words, after the others one for each of n peaks, if there are any. A stream of another size is skipped
+-- a stream of so many words: one for each of n peaks, if n is above 0, after `before` words that are passed over. A stream of another size is skipped
 unfoldable pub wordsEach : ℕ → ℕ → ℕ → Parser (List ℕ)
-wordsEach n others size = cond (leb 1 n && eqb size (others + n)) (skip (others * 4) >> counted n 4 (word 4)) (skip (size * 4) >> done [])
+wordsEach n before size = cond (leb 1 n && eqb size (before + n)) (skip (before * 4) >> counted n 4 (word 4)) (skip (size * 4) >> done [])
 
 -- the bytes of as many noise nodes as the stream has triples of words, and the words that are left over
 unfoldable pub triplets : ℕ → Parser (List ℕ)
@@ -26,6 +26,7 @@ triplets size = do
   skip ((size - size / 3 * 3) * 4)
   done nodes
 
+-- the words of two streams, and the bytes of the nodes
 pub record Streams : Type 0 where
   pub descriptors : List ℕ
   pub resolutions : List ℕ

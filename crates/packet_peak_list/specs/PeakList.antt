@@ -65,6 +65,6 @@ abbrev pub outcomeOfSkipped : SkippedAnswer → Outcome HeaderAndPeaks
 outcomeOfSkipped (skipped.Packet p) = ok p
 outcomeOfSkipped (skipped.Refused r) = outcomeOfRefusal r
 
--- what `read_peaks_only` answers, where so many masses and abundances are lent
+-- what `read_peaks_only` answers, where slices of these capacities are lent
 unfoldable pub readPeaksOnly : ℕ → ℕ → ℕ → List ℕ → Outcome (List Peak)
 readPeaksOnly mz abundance at run = outcome (single 4 at skipping (λ p _. pairsIfFit mz abundance (p .1))) run

@@ -5,7 +5,7 @@ ghost use Rattle.lists.specs.Left.{LeftPairs};
 ghost use Rattle.packet_peak_list.specs.PeakList.{isWide, itemSize, readPeaks, outcomeOfList, skipToPeaks, outcomeOfSkipped, readPeaksOnly};
 use packet_header::HeaderAnswer;
 use packet_header::PacketHeader;
-use peaks::hand_out;
+use peaks::write_peaks;
 use reader::remaining;
 use reader::u32_at;
 use refusal::CountAnswer;
@@ -104,7 +104,7 @@ pub fn read_peaks_only(run: &[u8], at: u64, mz: &mut [u64], abundance: &mut [u32
         SkippedAnswer::Refused(r) => CountAnswer::Refused(r),
         SkippedAnswer::Packet(p) => {
             let list = p.list;
-            hand_out(
+            write_peaks(
                 run,
                 list.at,
                 item_size(list.wide),

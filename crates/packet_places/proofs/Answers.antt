@@ -16,7 +16,7 @@ use Rattle.packet_peak_list.specs.PeakList.{readPeaks}
 use Rattle.packet_peak_list.specs.declared.PeakList.{PeakList}
 use Rattle.packet_record.specs.Packet.{OptionalProfile, Contents, contentsAt, profilePlace, withLabels}
 use Rattle.packet_record.specs.declared.PacketProfile.{PacketProfile}
-use Rattle.packet_record.specs.declared.Places.{Places}
+use Rattle.packet_record.specs.declared.PacketPlaces.{PacketPlaces}
 use Rattle.packet_record.proofs.Found.{Stands}
 use Rattle.packet_places.specs.Packet.{optionalProfile, packet}
 use Rattle.packet_places.specs.Places.{packetPlaces, findPlaces}
@@ -24,10 +24,10 @@ use Rattle.packet_places.specs.Internal.{findProfile, afterHeader, inTur
 use Rattle.packet_places.proofs.Stages.{header-short, k, profile-ran-out, peaks-short, labels-short, whole}
 
 -- the labels leave the profile as it was found
-with-profile : (s : List ℕ) (h : PacketHeader) (p : PacketProfile) (list : PeakList) {v : Places} {l : Streams} → ok (v, l) ≡ withLabels h p list s → v .profile ≡ p
+with-profile : (s : List ℕ) (h : PacketHeader) (p : PacketProfile) (list : PeakList) {v : PacketPlaces} {l : Streams} → ok (v, l) ≡ withLabels h p list s → v .profile ≡ p
 unfolding withLabels
 with-profile s h p list e =
-    ap (λ (q : Places × Streams). q .0 .profile)
+    ap (λ (q : PacketPlaces × Streams). q .0 .profile)
     (made-of (λ (l : Labels × Streams). (record { header = h; profile = p; list = list; labels = l .0 }, l .1)) (readLabels h (list .count) (list .next) s) e .made)
 
 module _ (s : List ℕ) (at : ℕ) where
@@ -57,7 +57,7 @@ module _ (s : List ℕ) (at : ℕ) where
           (one-refused (λ p. andThen (readPeaks h (p .1) s) (λ list. withLabels h (p .0) list s)) (findProfile h at s) j)
 
   -- the packet that stands at the places that were found, and its profile
-  pub record Standing (v : Places) : Type 0 where
+  pub record Standing (v : PacketPlaces) : Type 0 where
     pub header : PacketHeader
     pub profile : OptionalProfile
     pub next : ℕ
@@ -65,7 +65,7 @@ module _ (s : List ℕ) (at : ℕ) where
     pub is : v .profile ≡ profilePlace (header .layout) at profile
     pub stands : Stands packet (packetPlaces at) s at profile v
 
-  stages-stand : {v : Places} {l : Streams} → ok (v, l) ≡ inTurn at s → Standing v
+  stages-stand : {v : PacketPlaces} {l : Streams} → ok (v, l) ≡ inTurn at s → Standing v
   unfolding inTurn afterHeader
   stages-stand {v} i =
       let a = both-ok (λ h. afterHeader h at s) (readHeader at s) i in
@@ -83,24 +83,24 @@ module _ (s : List ℕ) (at : ℕ) where
       }
 
   -- so what is found in turn is what `packet` finds
-  abbrev standing-there : Places → Places × Contents
+  abbrev standing-there : PacketPlaces → PacketPlaces × Contents
   standing-there v = (v, contentsAt s v)
 
-  whole-packet : {v : Places} → Standing v → ok (standing-there v) ≡ findPlaces at s
+  whole-packet : {v : PacketPlaces} → Standing v → ok (standing-there v) ≡ findPlaces at s
   unfolding findPlaces outcome
   whole-packet {v} t =
       let w = t .stands in
-      rw (w .there) (ap ok (ap (λ (c : Contents). (v, c)) (w .contents) ∙ ap (λ (q : Places). (q, w .packet .contents)) (w .placed)))
+      rw (w .there) (ap ok (ap (λ (c : Contents). (v, c)) (w .contents) ∙ ap (λ (q : PacketPlaces). (q, w .packet .contents)) (w .placed)))
 
   pub no-packet : {n : ℕ} {carries : List ℕ} → refused n carries ≡ inTurn at s → refused n carries ≡ findPlaces at s
   unfolding findPlaces outcome
   no-packet e = let r = stage-short e in rw (r .there, r .one, r .part)
 
-  pub by-stages : (o : Outcome Places) → onOk (λ v. (v, streamsAt s (v .labels))) o ≡ inTurn at s → onOk standing-there o ≡ findPlaces at s
+  pub by-stages : (o : Outcome PacketPlaces) → onOk (λ v. (v, streamsAt s (v .labels))) o ≡ inTurn at s → onOk standing-there o ≡ findPlaces at s
   by-stages (ok v) e = whole-packet (stages-stand e)
   by-stages (refused n carries) e = no-packet e
 
-  same : (o : Outcome (Places × Streams)) → o ≡ inTurn at s → onOk (λ x. standing-there (x .0)) o ≡ findPlaces at s
+  same : (o : Outcome (PacketPlaces × Streams)) → o ≡ inTurn at s → onOk (λ x. standing-there (x .0)) o ≡ findPlaces at s
   same (ok x) e = whole-packet (stages-stand e)
   same (refused n carries) e = no-packet e
 
@@ -108,7 +108,7 @@ module _ (s : List ℕ) (at : ℕ) where
   unfolding findPlaces
   packet-short e = ran-out 4 at packet (λ p _. (packetPlaces at p, p .contents)) s e
 
-  pub standing : {v : Places} {c : Contents} → ok (v, c) ≡ findPlaces at s → Standing v
+  pub standing : {v : PacketPlaces} {c : Contents} → ok (v, c) ≡ findPlaces at s → Standing v
   standing {v} e =
-      let m = made-of (λ (x : Places × Streams). standing-there (x .0)) (inTurn at s) (e ∙ sym (same (inTurn at s) refl)) in
-      subst Standing (sym (ap (λ (x : Places × Contents). x .0) (m .made))) (stages-stand (m .is))
+      let m = made-of (λ (x : PacketPlaces × Streams). standing-there (x .0)) (inTurn at s) (e ∙ sym (same (inTurn at s) refl)) in
+      subst Standing (sym (ap (λ (x : PacketPlaces × Contents). x .0) (m .made))) (stages-stand (m .is))

@@ -63,4 +63,4 @@ module _ (at : ℕ) where
   places-completes = single-completes 4 at packet (λ p _. ok (packetPlaces at p, p .contents)) packet-bounded (λ _ _. tt)
 
   pub places-longer : OnLongerBytes outcomeOfPlaces (λ s r (_ : Unit {0}). onOk (λ v. (v, contentsAt s v)) (outcomeOfPlaces r) ≡ findPlaces at s) (λ q. q ≡ 4) (λ _ _. at < 2 ^ 62)
-  places-longer = labels.places-longer outcomeOfPlaces places-answer-one contentsAt (findPlaces at) places-prefix 4 at places-names places-completes
+  places-longer = labels.standing-longer outcomeOfPlaces places-answer-one contentsAt (findPlaces at) places-prefix 4 at places-names places-completes

@@ -27,7 +27,7 @@ use Rattle.packet_labels.specs.Labels.{Streams}
 use Rattle.packet_record.specs.Packet.{OptionalProfile, absent, present, Packet, afterPeaks, profilePlace, placesFrom, withLabels}
 use Rattle.packet_record.specs.declared.PacketProfile.{PacketProfile}
 use Rattle.packet_record.specs.declared.PacketProfile.the-variants.{Absent, Present}
-use Rattle.packet_record.specs.declared.Places.{Places}
+use Rattle.packet_record.specs.declared.PacketPlaces.{PacketPlaces}
 use Rattle.packet_record.proofs.Found.{Stands, ran-out-after, found-after}
 use Rattle.packet_places.specs.Packet.{optionalProfile, optionalSize, packet}
 use Rattle.packet_places.specs.Places.{packetPlaces}
@@ -167,7 +167,7 @@ module _ (s : List ℕ) (at : ℕ) where
       pub labels-short : (list : PeakList) → ok list ≡ readPeaks h next s → {n : ℕ} {carries : List ℕ} → refused n carries ≡ withLabels h p list s → RanOut 4 packet s at n carries
       labels-short list g i = let l = list-found list g in ran-out-after packet s at next h (k .profile) (l .peaks) list p (l .beyond) (l .is) i
 
-      pub whole : (list : PeakList) → ok list ≡ readPeaks h next s → {v : Places} {ls : Streams} → ok (v, ls) ≡ withLabels h p list s → Stands packet (packetPlaces at) s at (k .profile) v
+      pub whole : (list : PeakList) → ok list ≡ readPeaks h next s → {v : PacketPlaces} {ls : Streams} → ok (v, ls) ≡ withLabels h p list s → Stands packet (packetPlaces at) s at (k .profile) v
       whole list g i =
           let l = list-found list g in
           let packetOf : Streams → Packet = λ ls. record { header = h; profile = k .profile; contents = record { peaks = l .peaks; labels = ls } } in
@@ -180,6 +180,6 @@ module _ (h : PacketHeader) (at : ℕ) (s : List ℕ) {p : PacketProfile} {next 
   unfolding afterHeader
   then-no-peaks g = rw (← f, ← g)
 
-  pub then-labels : {list : PeakList} → ok list ≡ readPeaks h next s → {o : Outcome (Places × Streams)} → o ≡ withLabels h p list s → o ≡ afterHeader h at s
+  pub then-labels : {list : PeakList} → ok list ≡ readPeaks h next s → {o : Outcome (PacketPlaces × Streams)} → o ≡ withLabels h p list s → o ≡ afterHeader h at s
   unfolding afterHeader
   then-labels g i = rw (← f, ← g) i

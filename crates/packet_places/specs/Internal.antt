@@ -10,7 +10,7 @@ use Rattle.packet_peak_list.specs.PeakList.{readPeaks}
 use Rattle.packet_labels.specs.Labels.{Streams}
 use Rattle.packet_record.specs.Packet.{profilePlace, withLabels}
 use Rattle.packet_record.specs.declared.PacketProfile.{PacketProfile}
-use Rattle.packet_record.specs.declared.Places.{Places}
+use Rattle.packet_record.specs.declared.PacketPlaces.{PacketPlaces}
 use Rattle.packet_places.specs.Packet.{optionalProfile}
 use Rattle.packet_places.specs.declared.FoundProfile.{FoundProfile}
 use Rattle.packet_places.specs.declared.FoundProfile.the-variants as profile
@@ -23,8 +23,8 @@ abbrev pub outcomeOfProfile : FoundProfile → Outcome (PacketProfile × ℕ)
 outcomeOfProfile (profile.Found p next) = ok (p, next)
 outcomeOfProfile (profile.Refused r) = outcomeOfRefusal r
 
-unfoldable pub afterHeader : PacketHeader → ℕ → List ℕ → Outcome (Places × Streams)
+unfoldable pub afterHeader : PacketHeader → ℕ → List ℕ → Outcome (PacketPlaces × Streams)
 afterHeader h at s = andThen (findProfile h at s) (λ p. andThen (readPeaks h (p .1) s) (λ list. withLabels h (p .0) list s))
 
-unfoldable pub inTurn : ℕ → List ℕ → Outcome (Places × Streams)
+unfoldable pub inTurn : ℕ → List ℕ → Outcome (PacketPlaces × Streams)
 inTurn at s = andThen (readHeader at s) (λ h. afterHeader h at s)

@@ -14,8 +14,8 @@ use packet_peak_list::PeakListAnswer;
 use packet_peak_list::read_peaks;
 use packet_profile::Profile;
 use packet_profile::ProfileAnswer;
+use packet_record::PacketPlacesAnswer;
 use packet_record::PacketProfile;
-use packet_record::PlacesAnswer;
 use packet_record::with_labels;
 use refusal::Refusal;
 
@@ -39,25 +39,25 @@ fn find_profile(run: &[u8], at: u64, h: PacketHeader) -> FoundProfile
     }
 }
 
-fn after_header(run: &[u8], at: u64, h: PacketHeader) -> PlacesAnswer
+fn after_header(run: &[u8], at: u64, h: PacketHeader) -> PacketPlacesAnswer
     requires { ⌜ 40 ≤ left (now run) at ⌝ }
     ensures { λ r. ⌜ onOk (λ v. (v, streamsAt (now (run .entry)) (v .labels))) (outcomeOfPlaces r) ≡ afterHeader h at (now (run .entry)) ⌝ }
 {
     match find_profile(run, at, h) {
-        FoundProfile::Refused(r) => PlacesAnswer::Refused(r),
+        FoundProfile::Refused(r) => PacketPlacesAnswer::Refused(r),
         FoundProfile::Found(profile, next) => match read_peaks(run, next, h) {
-            PeakListAnswer::Refused(r) => PlacesAnswer::Refused(r),
+            PeakListAnswer::Refused(r) => PacketPlacesAnswer::Refused(r),
             PeakListAnswer::List(list) => with_labels(run, h, profile, list),
         },
     }
 }
 
 // Where the parts of the packet at a place of the run stand.
-pub fn find_places(run: &[u8], at: u64) -> PlacesAnswer
+pub fn find_places(run: &[u8], at: u64) -> PacketPlacesAnswer
     ensures { λ r. ⌜ onOk (λ v. (v, contentsAt (now (run .entry)) v)) (outcomeOfPlaces r) ≡ findPlaces at (now (run .entry)) ⌝ }
 {
     match PacketHeader::read(run, at) {
-        HeaderAnswer::Refused(r) => PlacesAnswer::Refused(r),
+        HeaderAnswer::Refused(r) => PacketPlacesAnswer::Refused(r),
         HeaderAnswer::Header(h) => after_header(run, at, h),
     }
 }

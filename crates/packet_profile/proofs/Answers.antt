@@ -15,7 +15,7 @@ use Rattle.parser.specs.Internal.{Sized, value}
 use Rattle.parser.proofs.Prefix.{within-parsed, parse-bind, parts}
 use Rattle.parser.proofs.Fixed.{parse-sized, parse-stage}
 use Rattle.parser.proofs.Answered.{found, RanOut, ran-out}
-use Rattle.packet_profile.specs.Profile.{isFudged, Chunk, points, chunk, Axis, axis, profile, located, readProfile}
+use Rattle.packet_profile.specs.Profile.{isFudged, Chunk, points, chunk, Axis, axis, profile, profileRecord, readProfile}
 use Rattle.packet_profile.specs.Internal.{chunksAnswer}
 use Rattle.packet_profile.proofs.Chunks.{chunks}
 use Rattle.packet_profile.specs.declared.Profile.{Profile}
@@ -98,7 +98,7 @@ module _ (layout : ℕ) (s : List ℕ) (at : ℕ) where
             c .next,
           )
           ≡ readProfile layout at s
-      unfolding readProfile outcome rest list located paired parse
+      unfolding readProfile outcome rest list profileRecord paired parse
       whole-profile fudged f c i =
           let j = rw f at i in
           let l = listed list (c .points) (c .next) j in
@@ -107,12 +107,12 @@ module _ (layout : ℕ) (s : List ℕ) (at : ℕ) where
 -- the chunks of a profile that was parsed, by its record
 chunked-of : (layout : ℕ) (s : List ℕ) (at : ℕ) (p : Axis × List Chunk) (a : Axis) (cs : List Chunk) (place next end : ℕ)
     → p ≡ (a, cs) → place ≡ at + 24 → end ≡ next → parse (repeat (a .peakCount) (chunk (isFudged layout))) s place ≡ parsed cs end
-    → let v = located layout at p in parse (repeat (v .«peak_count») (chunk (v .fudged))) s (v .«chunks_at») ≡ parsed (p .1) next
-unfolding located
+    → let v = profileRecord layout at p in parse (repeat (v .«peak_count») (chunk (v .fudged))) s (v .«chunks_at») ≡ parsed (p .1) next
+unfolding profileRecord
 chunked-of layout s at p a cs place next end b q n h = rw (b, ← q, ← n) h
 
 pub profile-chunks : (layout : ℕ) (s : List ℕ) (at : ℕ) {p : Axis × List Chunk} {next : ℕ} → parse (profile layout) s at ≡ parsed p next
-    → let v = located layout at p in parse (repeat (v .«peak_count») (chunk (v .fudged))) s (v .«chunks_at») ≡ parsed (p .1) next
+    → let v = profileRecord layout at p in parse (repeat (v .«peak_count») (chunk (v .fudged))) s (v .«chunks_at») ≡ parsed (p .1) next
 unfolding profile rest paired counted parse
 profile-chunks layout s at {p} {next} h =
     let a = parts axis (rest layout) s at h in
@@ -125,7 +125,7 @@ profile-chunks layout s at {p} {next} h =
 pub record Profiled (layout : ℕ) (s : List ℕ) (at : ℕ) (v : Profile) (next : ℕ) : Type 0 where
   pub value : Axis × List Chunk
   pub there : parse (profile layout) s at ≡ parsed value next
-  pub made : v ≡ located layout at value
+  pub made : v ≡ profileRecord layout at value
   pub chunked : parse (repeat (v .«peak_count») (chunk (v .fudged))) s (v .«chunks_at») ≡ parsed (value .1) next
 
 by-record : (v w : Profile) (s : List ℕ) {o : Parsed (List Chunk)} → v ≡ w → parse (repeat (w .«peak_count») (chunk (w .fudged))) s (w .«chunks_at») ≡ o
@@ -135,11 +135,11 @@ by-record v w s e h = rw e h
 pub profiled : (layout : ℕ) (s : List ℕ) (at : ℕ) {v : Profile} {next : ℕ} → ok (v, next) ≡ readProfile layout at s → Profiled layout s at v next
 unfolding readProfile
 profiled layout s at {v} {next} e =
-    let f = found 4 at (profile layout) (λ (p : Axis × List Chunk) (end : ℕ). (located layout at p, end)) s e in
+    let f = found 4 at (profile layout) (λ (p : Axis × List Chunk) (end : ℕ). (profileRecord layout at p, end)) s e in
     let there : parse (profile layout) s at ≡ parsed (f .value) next = f .there ∙ ap (parsed (f .value)) (sym (ap (λ (w : Profile × ℕ). w .1) (f .made))) in
-    let made : v ≡ located layout at (f .value) = ap (λ (w : Profile × ℕ). w .0) (f .made) in
-    record { value = f .value; there = there; made = made; chunked = by-record v (located layout at (f .value)) s made (profile-chunks layout s at there) }
+    let made : v ≡ profileRecord layout at (f .value) = ap (λ (w : Profile × ℕ). w .0) (f .made) in
+    record { value = f .value; there = there; made = made; chunked = by-record v (profileRecord layout at (f .value)) s made (profile-chunks layout s at there) }
 
 pub unprofiled : (layout : ℕ) (s : List ℕ) (at : ℕ) {n : ℕ} {carries : List ℕ} → refused n carries ≡ readProfile layout at s → RanOut 4 (profile layout) s at n carries
 unfolding readProfile
-unprofiled layout s at e = ran-out 4 at (profile layout) (λ (p : Axis × List Chunk) (end : ℕ). (located layout at p, end)) s e
+unprofiled layout s at e = ran-out 4 at (profile layout) (λ (p : Axis × List Chunk) (end : ℕ). (profileRecord layout at p, end)) s e

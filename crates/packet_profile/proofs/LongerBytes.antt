@@ -7,17 +7,15 @@ use mathlib.Core.List.{List, _++_}
 use lib.Dec.{lit≤}
 use Rattle.refusal.specs.Outcome.{ok}
 use Rattle.parser.specs.Parser.{parse, repeat, counted}
-use Rattle.parser.specs.Call.{single}
-use Rattle.parser.specs.LongerBytes.{OnLongerBytes, PrefixProperty, Names, Completes}
+use Rattle.parser.specs.LongerBytes.{OnLongerBytes}
 use Rattle.parser.proofs.Prefix.{prefix-parsed}
 use Rattle.parser.proofs.Completion.{extent, bounded-more, ValueInvariant, invariant-word}
-use Rattle.parser.proofs.Calls.{prefix-property, only-part, single-completes}
-use Rattle.parser.proofs.OnLongerBytes.{one-part, plain-longer}
+use Rattle.parser.proofs.Records.{OnePart, single-part}
 use Rattle.parser.proofs.DemandBound.{DemandBound, Any, demand-sized, demand-known, demand-more, demand-done, demand-ahead, demand-repeat, demand-bind}
-use Rattle.packet_profile.specs.Profile.{isFudged, headSize, chunk, Axis, axis, profile, located, readProfile, outcomeOf}
+use Rattle.packet_profile.specs.Profile.{isFudged, points, headSize, chunk, findSignal, outcomeOfSignal, Axis, axis, profile, profileRecord, readProfile, outcomeOf}
 use Rattle.packet_profile.specs.declared.Profile.{Profile}
 use Rattle.packet_profile.proofs.Chunks.{Head, head, values, chunks, whole, rest, staged, head-sized, values-sized}
-use Rattle.packet_profile.proofs.OneAnswer.{profile-answer-one}
+use Rattle.packet_profile.proofs.OneAnswer.{profile-answer-one, signal-answer-one}
 use Rattle.packet_profile.proofs.Answers.{axis-sized, paired, profiled}
 use Rattle.packet_profile.proofs.Answers.{rest as beyond}
 
@@ -80,24 +78,14 @@ module _ (far : ℕ) where
 
 -- demand 3
 module _ (layout at : ℕ) where
-  pub profile-prefix : PrefixProperty (readProfile layout at)
+  pub profile-part : OnePart outcomeOf 4 at (readProfile layout at)
   unfolding readProfile
-  profile-prefix = prefix-property (single 4 at (profile layout) (λ p next. ok (located layout at p, next)))
-
-  pub profile-names : Names (λ q. q ≡ 4) (readProfile layout at)
-  unfolding readProfile
-  profile-names = only-part 4 at (profile layout) (λ p next. ok (located layout at p, next)) (λ _ _. tt)
-
-  pub profile-completes : Completes 4 at (readProfile layout at)
-  unfolding readProfile
-  profile-completes =
-      single-completes 4 at (profile layout) (λ p next. ok (located layout at p, next))
+  profile-part =
+      single-part 4 at (profile layout) (λ p next. ok (profileRecord layout at p, next)) outcomeOf profile-answer-one
       (bounded-more (2 ^ 62) (24 + 2 ^ 37) (2 ^ 61) (profile layout) (lit≤ tt) (profile-demand (2 ^ 62) layout .bounded)) (λ _ _. tt)
 
   pub profile-longer : OnLongerBytes outcomeOf (λ s r (_ : Unit {0}). outcomeOf r ≡ readProfile layout at s) (λ q. q ≡ 4) (λ _ _. at < 2 ^ 62)
-  profile-longer =
-      plain-longer outcomeOf profile-answer-one (readProfile layout at) profile-prefix (λ q. q ≡ 4) (λ _ _. at < 2 ^ 62) profile-names
-      (one-part 4 at (readProfile layout at) profile-names profile-completes)
+  profile-longer = profile-part .longer
 
   -- the chunks of a profile that was read on s are the same on longer bytes
   pub same-chunks : (s t : List ℕ) {v : Profile} {next : ℕ} → ok (v, next) ≡ readProfile layout at s
@@ -105,3 +93,10 @@ module _ (layout at : ℕ) where
   same-chunks s t {v} e =
       let c = profiled layout s at e .chunked in
       prefix-parsed (repeat (v .«peak_count») (chunk (v .fudged))) s t (v .«chunks_at») c ∙ sym c
+
+pub signal-longer : (fudged : Bool) (at : ℕ)
+    → OnLongerBytes outcomeOfSignal (λ s r (_ : Unit {0}). outcomeOfSignal r ≡ findSignal fudged at s) (λ q. q ≡ 4) (λ _ _. at < 2 ^ 62)
+unfolding findSignal
+signal-longer fudged at =
+    single-part 4 at (chunk fudged) (λ c next. ok (record { at = at + headSize fudged; points = points c; next = next })) outcomeOfSignal signal-answer-one
+    (bounded-more (2 ^ 62) (12 + 2 ^ 34) (2 ^ 61) (chunk fudged) (lit≤ tt) (chunk-demand (2 ^ 62) fudged .bounded)) (λ _ _. tt) .longer

@@ -1,10 +1,12 @@
--- A profile's answer is known by what it tells: a promise that is stated through `outcomeOf` leaves one answer.
+-- Answers of one outcome are equal, so a promise that is stated through `outcomeOf` leaves one answer.
 use mathlib.Core.Path.{_≡_, ap}
 use Prim.Native.Nat.{ℕ}
 use Rattle.refusal.proofs.OneAnswer.{refusal-one}
-use Rattle.packet_profile.specs.Profile.{outcomeOf}
+use Rattle.packet_profile.specs.Profile.{outcomeOf, outcomeOfSignal}
 use Rattle.packet_profile.specs.declared.Profile.{Profile as Record}
 use Rattle.packet_profile.specs.declared.ProfileAnswer.{ProfileAnswer}
+use Rattle.packet_profile.specs.declared.SignalAnswer.{SignalAnswer}
+use Rattle.packet_profile.specs.declared.SignalAnswer.the-variants as signal
 use Rattle.packet_profile.specs.declared.ProfileAnswer.the-variants.{Profile, Refused}
 
 pub profile-answer-one : (a b : ProfileAnswer) → outcomeOf a ≡ outcomeOf b → a ≡ b
@@ -16,3 +18,9 @@ profile-answer-one (Profile x m) (Profile y n) h =
 profile-answer-one (Profile x m) (Refused q) h = cc
 profile-answer-one (Refused r) (Profile y n) h = cc
 profile-answer-one (Refused r) (Refused q) h = ap Refused (refusal-one r q h)
+
+pub signal-answer-one : (a b : SignalAnswer) → outcomeOfSignal a ≡ outcomeOfSignal b → a ≡ b
+signal-answer-one (signal.Signal x) (signal.Signal y) h = cc
+signal-answer-one (signal.Signal x) (signal.Refused q) h = cc
+signal-answer-one (signal.Refused r) (signal.Signal y) h = cc
+signal-answer-one (signal.Refused r) (signal.Refused q) h = ap signal.Refused (refusal-one r q h)

@@ -1,54 +1,55 @@
 -- Where a chunk's signal stands, by the tests that decide it; and the chunk that stands there.
 use mathlib.Core.Path.{_≡_, refl, ap, _∙_}
 use Prim.Native.Nat.{ℕ, _+_, _*_, _≤_, _<_}
-use native.Mathlib.Omega.{arith}
 use mathlib.Core.Bool.{Bool}
 use mathlib.Core.List.{List}
+use Rattle.refusal.specs.Outcome.{ok, refused, ranOut}
 use Rattle.lists.proofs.Laws.{length-each}
-use Rattle.parser.specs.Parser.{Parsed, short, parsed, bytes, littleEndian, left, parse}
-use Rattle.packet_profile.specs.Profile.{headSize, Chunk, points, chunk, signalOf}
+use Rattle.parser.specs.Parser.{short, parsed, bytes, littleEndian, left, parse}
+use Rattle.parser.specs.Call.{outcome}
+use Rattle.parser.proofs.Answered.{found, ran-out}
+use Rattle.packet_profile.specs.Profile.{headSize, Chunk, points, chunk, findSignal}
+use Rattle.packet_profile.specs.declared.Signal.{Signal}
 use Rattle.packet_profile.proofs.Chunks.{chunkAt, chunk-short-head, chunk-short, chunk-parsed, whole-chunk}
-use Rattle.packet_profile.specs.declared.Signal.{Signal as Place}
-use Rattle.packet_profile.specs.declared.SignalAnswer.the-variants.{Signal, Short}
 
 pub points-at : (fudged : Bool) (s : List ℕ) (at n : ℕ) → points (chunkAt fudged s at n) ≡ n
 points-at fudged s at n = length-each _ n
 
 module _ (fudged : Bool) (s : List ℕ) (at : ℕ) where
-  pub no-head : left s at < headSize fudged → Short ≡ signalOf fudged at (parse (chunk fudged) s at)
+  pub no-head : left s at < headSize fudged → ranOut 4 ≡ findSignal fudged at s
+  unfolding findSignal outcome
   no-head t = rw (chunk-short-head fudged s at t)
 
   module _ (n : ℕ) (e : n ≡ littleEndian (bytes s (at + 4) 4)) (t : headSize fudged ≤ left s at) where
-    pub no-signal : left s (at + headSize fudged) < n * 4 → Short ≡ signalOf fudged at (parse (chunk fudged) s at)
+    pub no-signal : left s (at + headSize fudged) < n * 4 → ranOut 4 ≡ findSignal fudged at s
+    unfolding findSignal outcome
     no-signal u = rw (chunk-short fudged s at n e t u)
 
     pub signal-there : n * 4 ≤ left s (at + headSize fudged)
-        → Signal (record { at = at + headSize fudged; points = n; end = at + headSize fudged + n * 4 }) ≡ signalOf fudged at (parse (chunk fudged) s at)
+        → ok (record { at = at + headSize fudged; points = n; next = at + headSize fudged + n * 4 }) ≡ findSignal fudged at s
+    unfolding findSignal outcome
     signal-there u = rw (chunk-parsed fudged s at n e t u, points-at fudged s at n)
 
   -- what a place of a signal says of the chunk
-  pub record There (v : Place) : Type 0 where
-    pub here : parse (chunk fudged) s at ≡ parsed (chunkAt fudged s at (v .points)) (v .end)
+  pub record There (v : Signal) : Type 0 where
+    pub here : parse (chunk fudged) s at ≡ parsed (chunkAt fudged s at (v .points)) (v .next)
     pub starts : v .at ≡ at + headSize fudged
-    pub ends : v .end ≡ v .at + v .points * 4
+    pub ends : v .next ≡ v .at + v .points * 4
 
-  there-of : (v : Place) (o : Parsed Chunk) → parse (chunk fudged) s at ≡ o → Signal v ≡ signalOf fudged at o → There v
-  there-of v short e h = let c : _≡_ {A = ℕ} 0 1 = cc in absurd (omega arith)
-  there-of v (parsed c next) e h =
-      let same : _≡_ {A = Place} v (record { at = at + headSize fudged; points = points c; end = next }) = cc in
-      let w = whole-chunk fudged s at (littleEndian (bytes s (at + 4) 4)) refl e in
-      let n : points c ≡ littleEndian (bytes s (at + 4) 4) = ap points (w .is) ∙ points-at fudged s at (littleEndian (bytes s (at + 4) 4)) in
-      let size : v .points ≡ littleEndian (bytes s (at + 4) 4) = ap (λ (p : Place). p .points) same ∙ n in
-      let end : v .end ≡ next = ap (λ (p : Place). p .end) same in
-      let start : v .at ≡ at + headSize fudged = ap (λ (p : Place). p .at) same in
-      record { here = rw (size, end) (e ∙ ap (λ (d : Chunk). parsed d next) (w .is)); starts = start; ends = rw (start, size) (end ∙ w .end) }
+  abbrev signalOf : Chunk → ℕ → Signal
+  signalOf c next = record { at = at + headSize fudged; points = points c; next = next }
 
-  pub there : {v : Place} → Signal v ≡ signalOf fudged at (parse (chunk fudged) s at) → There v
-  there {v} h = there-of v (parse (chunk fudged) s at) refl h
+  pub there : {v : Signal} → ok v ≡ findSignal fudged at s → There v
+  unfolding findSignal
+  there {v} h =
+      let count = littleEndian (bytes s (at + 4) 4) in
+      let f = found 4 at (chunk fudged) signalOf s h in
+      let w = whole-chunk fudged s at count refl (f .there) in
+      let size : v .points ≡ count = ap (λ (p : Signal). p .points) (f .made) ∙ ap points (w .is) ∙ points-at fudged s at count in
+      let next : v .next ≡ f .next = ap (λ (p : Signal). p .next) (f .made) in
+      let start : v .at ≡ at + headSize fudged = ap (λ (p : Signal). p .at) (f .made) in
+      record { here = rw (size, next) (f .there ∙ ap (λ (d : Chunk). parsed d (f .next)) (w .is)); starts = start; ends = rw (start, size) (next ∙ w .end) }
 
-  not-there : (o : Parsed Chunk) → Short ≡ signalOf fudged at o → o ≡ short
-  not-there short h = refl
-  not-there (parsed c next) h = let z : _≡_ {A = ℕ} 0 1 = cc in absurd (omega arith)
-
-  pub missing : Short ≡ signalOf fudged at (parse (chunk fudged) s at) → parse (chunk fudged) s at ≡ short
-  missing h = not-there (parse (chunk fudged) s at) h
+  pub missing : {n : ℕ} {carries : List ℕ} → refused n carries ≡ findSignal fudged at s → parse (chunk fudged) s at ≡ short
+  unfolding findSignal
+  missing h = ran-out 4 at (chunk fudged) signalOf s h .there

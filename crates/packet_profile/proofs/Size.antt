@@ -8,7 +8,7 @@ use Rattle.lists.proofs.Laws.{length-each}
 use Rattle.parser.specs.Parser.{parsed, bytes, littleEndian, parse, repeat}
 use Rattle.parser.specs.Walk.{sum}
 use Rattle.parser.proofs.Walk.{first-of}
-use Rattle.packet_profile.specs.Profile.{isFudged, Chunk, points, chunk, Axis, profile, headSize, profileSize, located}
+use Rattle.packet_profile.specs.Profile.{isFudged, Chunk, points, chunk, Axis, profile, headSize, profileSize, profileRecord}
 use Rattle.packet_profile.proofs.Chunks.{whole-chunk}
 use Rattle.packet_profile.proofs.Answers.{profile-chunks}
 
@@ -36,5 +36,5 @@ module _ (fudged : Bool) (s : List ℕ) where
       rw (f .both) (omega (arith, beyond, this))
 
 pub profile-end : (layout : ℕ) (s : List ℕ) (at : ℕ) {p : Axis × List Chunk} {next : ℕ} → parse (profile layout) s at ≡ parsed p next → next ≡ at + profileSize layout p
-unfolding located
+unfolding profileRecord
 profile-end layout s at {p} h = let e = chunks-end (isFudged layout) s (p .0 .peakCount) (at + 24) (profile-chunks layout s at h) in omega (arith, e)

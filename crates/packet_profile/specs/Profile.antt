@@ -6,10 +6,11 @@ use lib.Dec.{eqb}
 use lib.ListN.{length}
 use Rattle.refusal.specs.Outcome.{Outcome, ok}
 use Rattle.refusal.specs.Number.{outcomeOfRefusal}
-use Rattle.parser.specs.Parser.{Parser, Parsed, short, parsed, done, _>>=_, word, counted, wordAt}
+use Rattle.parser.specs.Parser.{Parser, done, _>>=_, word, counted, wordAt}
 use Rattle.parser.specs.Walk.{sum}
 use Rattle.parser.specs.Call.{outcome, single}
 use Rattle.packet_profile.specs.declared.Profile.{Profile}
+use Rattle.packet_profile.specs.declared.Signal.{Signal}
 use Rattle.packet_profile.specs.declared.SignalAnswer.{SignalAnswer}
 use Rattle.packet_profile.specs.declared.SignalAnswer.the-variants as signal
 use Rattle.packet_profile.specs.declared.ProfileAnswer.{ProfileAnswer}
@@ -50,10 +51,13 @@ abbrev pub fudgeAt : Bool → List ℕ → ℕ → ℕ
 fudgeAt true s at = wordAt s (at + 8) 4
 fudgeAt false s at = 0
 
--- of a chunk at `at` that was looked for: where its signal stands, how many values it has, and the place after it
-abbrev pub signalOf : Bool → ℕ → Parsed Chunk → SignalAnswer
-signalOf fudged at short = signal.Short
-signalOf fudged at (parsed c next) = signal.Signal (record { at = at + headSize fudged; points = points c; end = next })
+-- what `signal_at` answers of the chunk at `at`: where its signal stands, how many values it has, and the place after it
+unfoldable pub findSignal : Bool → ℕ → List ℕ → Outcome Signal
+findSignal fudged at run = outcome (single 4 at (chunk fudged) (λ c next. ok (record { at = at + headSize fudged; points = points c; next = next }))) run
+
+abbrev pub outcomeOfSignal : SignalAnswer → Outcome Signal
+outcomeOfSignal (signal.Signal v) = ok v
+outcomeOfSignal (signal.Refused r) = outcomeOfRefusal r
 
 -- what stands before the chunks: the bits of two f64, and two counts
 pub record Axis : Type 0 where
@@ -81,8 +85,8 @@ abbrev pub profileSize : ℕ → Axis × List Chunk → ℕ
 profileSize layout p = 24 + sum (λ c. headSize (isFudged layout) + points c * 4) (p .1)
 
 -- the record of a profile that stands at `at`
-unfoldable pub located : ℕ → ℕ → Axis × List Chunk → Profile
-located layout at p =
+unfoldable pub profileRecord : ℕ → ℕ → Axis × List Chunk → Profile
+profileRecord layout at p =
     record {
       «first_value» = p .0 .firstValue;
       step = p .0 .step;
@@ -95,7 +99,7 @@ located layout at p =
 
 -- what `Profile::read` answers: the profile, and the place after it
 unfoldable pub readProfile : ℕ → ℕ → List ℕ → Outcome (Profile × ℕ)
-readProfile layout at run = outcome (single 4 at (profile layout) (λ p next. ok (located layout at p, next))) run
+readProfile layout at run = outcome (single 4 at (profile layout) (λ p next. ok (profileRecord layout at p, next))) run
 
 abbrev pub outcomeOf : ProfileAnswer → Outcome (Profile × ℕ)
 outcomeOf (answer.Profile p next) = ok (p, next)

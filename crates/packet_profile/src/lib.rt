@@ -2,7 +2,7 @@
 ghost use mathlib.Core.Path.{_≡_};
 ghost use Prim.Native.Nat.{_≤_};
 ghost use Rattle.parser.specs.Parser.{parse, repeat};
-ghost use Rattle.packet_profile.specs.Profile.{isFudged, headSize, chunk, fudgeAt, signalOf, readProfile, outcomeOf};
+ghost use Rattle.packet_profile.specs.Profile.{isFudged, headSize, chunk, fudgeAt, findSignal, outcomeOfSignal, readProfile, outcomeOf};
 ghost use Rattle.packet_profile.specs.Internal.{chunksAnswer};
 use reader::remaining;
 use reader::saturating_add;
@@ -36,13 +36,12 @@ pub enum ProfileAnswer {
 pub struct Signal {
     pub at: u64,
     pub points: u64,
-    pub end: u64,
+    pub next: u64,
 }
 
 pub enum SignalAnswer {
     Signal(Signal),
-    // The run ends before the chunk does.
-    Short,
+    Refused(Refusal),
 }
 
 // How many signal values the chunks hold, and the place after them.
@@ -84,20 +83,20 @@ pub fn fudge_at(run: &[u8], at: u64, fudged: bool) -> u32
 
 // The signal of the chunk at a place.
 pub fn signal_at(run: &[u8], at: u64, fudged: bool) -> SignalAnswer
-    ensures { λ r. ⌜ r ≡ signalOf fudged at (parse (chunk fudged) (now (run .entry)) at) ⌝ }
+    ensures { λ r. ⌜ outcomeOfSignal r ≡ findSignal fudged at (now (run .entry)) ⌝ }
 {
     let head = head_size(fudged);
     if remaining(run, at) < head {
-        return SignalAnswer::Short;
+        return SignalAnswer::Refused(Refusal::Short(Part::Data));
     }
     let points = u32_at(run, at + 4) as u64;
     if remaining(run, at + head) < points * 4 {
-        return SignalAnswer::Short;
+        return SignalAnswer::Refused(Refusal::Short(Part::Data));
     }
     SignalAnswer::Signal(Signal {
         at: at + head,
         points,
-        end: at + head + points * 4,
+        next: at + head + points * 4,
     })
 }
 
@@ -113,7 +112,7 @@ fn pass_chunks(run: &[u8], start: u64, fudged: bool, count: u32) -> ChunksAnswer
             return ChunksAnswer::Short;
         };
         points = points + signal.points;
-        at = signal.end;
+        at = signal.next;
         i = i + 1;
     }
     ChunksAnswer::Chunks(ChunkList { points, next: at })

@@ -17,10 +17,10 @@ use Rattle.packet_labels.specs.declared.Labels.{Labels}
 use Rattle.packet_labels.proofs.Answers.{labelled, unlabelled}
 use Rattle.packet_record.specs.Packet.{OptionalProfile, Packet, afterPeaks, placesFrom, contentsAt, withLabels}
 use Rattle.packet_record.specs.declared.PacketProfile.{PacketProfile}
-use Rattle.packet_record.specs.declared.Places.{Places}
+use Rattle.packet_record.specs.declared.PacketPlaces.{PacketPlaces}
 
 -- the packet that stands at these places, which a reader gives it, and has this profile
-pub record Stands (p : Parser Packet) (places : Packet → Places) (s : List ℕ) (at : ℕ) (profile : OptionalProfile) (v : Places) : Type 0 where
+pub record Stands (p : Parser Packet) (places : Packet → PacketPlaces) (s : List ℕ) (at : ℕ) (profile : OptionalProfile) (v : PacketPlaces) : Type 0 where
   pub packet : Packet
   pub there : parse p s at ≡ parsed packet (v .labels .next)
   pub profile-is : packet .profile ≡ profile
@@ -37,7 +37,7 @@ module _ (p : Parser Packet) (s : List ℕ) (at start : ℕ) (h : PacketHeader) 
   unfolding afterPeaks whole
   to-labels = let count : list .count ≡ length peaks = ap (λ (l : PeakList). l .count) is in listEnd ∙ rw count
 
-  abbrev with : Labels × Streams → Places × Streams
+  abbrev with : Labels × Streams → PacketPlaces × Streams
   with l = (record { header = h; profile = v; list = list; labels = l .0 }, l .1)
 
   pub ran-out-after : {n : ℕ} {carries : List ℕ} → refused n carries ≡ withLabels h v list s → RanOut 4 p s at n carries
@@ -53,7 +53,7 @@ module _ (p : Parser Packet) (s : List ℕ) (at start : ℕ) (h : PacketHeader) 
       ap (λ (x : Labels). with (x, k) .0) m
       ∙ ap (λ (x : PeakList). record { header = h; profile = v; list = x; labels = labelPlaces h (x .next) k }) is
 
-  module _ (places : Packet → Places)
+  module _ (places : Packet → PacketPlaces)
       (given : (k : Streams) → let q : Packet = record { header = h; profile = profile; contents = record { peaks = peaks; labels = k } } in placesFrom v start q ≡ places q)
       (stand : peaks ≡ peaksAt (list .wide) (itemSize (list .wide)) s (list .at) (list .count)) where
     stands-at : (l : Labels) (k : Streams) → (parse (labels h (list .count)) s (list .next) ≡ parsed k (l .next)) × (l ≡ labelPlaces h (list .next) k) × (streamsAt s l ≡ k)
@@ -68,8 +68,8 @@ module _ (p : Parser Packet) (s : List ℕ) (at start : ℕ) (h : PacketHeader) 
           contents = ap (λ (ps : List Peak). record { peaks = ps; labels = streamsAt s l }) (sym stand) ∙ ap (λ (x : Streams). record { peaks = peaks; labels = x }) (r .2);
         }
 
-    pub found-after : {w : Places} {k : Streams} → ok (w, k) ≡ withLabels h v list s → Stands p places s at profile w
+    pub found-after : {w : PacketPlaces} {k : Streams} → ok (w, k) ≡ withLabels h v list s → Stands p places s at profile w
     unfolding withLabels
     found-after {w} e =
         let m = made-of with (readLabels h (list .count) (list .next) s) e in
-        subst (Stands p places s at profile) (sym (ap (λ (x : Places × Streams). x .0) (m .made))) (stands-at (m .value .0) (m .value .1) (labelled h (list .count) s (list .next) (m .is)))
+        subst (Stands p places s at profile) (sym (ap (λ (x : PacketPlaces × Streams). x .0) (m .made))) (stands-at (m .value .0) (m .value .1) (labelled h (list .count) s (list .next) (m .is)))

@@ -1,4 +1,4 @@
-pub mod HandOut
+pub mod Writing
 pub mod Found
 pub mod OneAnswer
 pub mod LongerBytes

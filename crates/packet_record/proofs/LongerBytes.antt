@@ -16,10 +16,10 @@ use Rattle.peaks.specs.Peaks.{Peak}
 use Rattle.packet_peak_list.specs.declared.PeakList.{PeakList}
 use Rattle.packet_labels.specs.Labels.{Streams, labels, streamsAt, readLabels}
 use Rattle.packet_labels.specs.declared.Labels.{Labels}
-use Rattle.packet_labels.proofs.LongerBytes.{answer-alone, longer-from, places-longer, labels-demand, labels-prefix, labels-names, labels-completes}
+use Rattle.packet_labels.proofs.LongerBytes.{answer-alone, longer-from, standing-longer, labels-demand, labels-prefix, labels-names, labels-completes}
 use Rattle.packet_record.specs.Packet.{OptionalProfile, Contents, afterPeaks, withLabels, outcomeOfPlaces, recordOf, listsOf, packetIfFits, outcomeOf, nodesAt, withNodes}
 use Rattle.packet_record.specs.declared.PacketProfile.{PacketProfile}
-use Rattle.packet_record.specs.declared.Places.{Places}
+use Rattle.packet_record.specs.declared.PacketPlaces.{PacketPlaces}
 use Rattle.packet_record.specs.declared.ScanDataPacket.{ScanDataPacket}
 use Rattle.packet_record.proofs.Found.{whole}
 use Rattle.packet_record.proofs.OneAnswer.{packet-answer-one, places-answer-one}
@@ -30,7 +30,7 @@ after-demand far h size profile peaks =
     demand-bind far (3 * 2 ^ 34) 0 Any Any (whole h profile peaks) (λ _ _. demand-done far 0 Any _ tt) (labels h (length peaks)) (labels-demand far h (length peaks) size)
 
 module _ (h : PacketHeader) (profile : PacketProfile) (list : PeakList) where
-  with : Labels × Streams → Places × Streams
+  with : Labels × Streams → PacketPlaces × Streams
   with l = (record { header = h; profile = profile; list = list; labels = l .0 }, l .1)
 
   pub with-labels-prefix : PrefixProperty (withLabels h profile list)
@@ -49,10 +49,10 @@ module _ (h : PacketHeader) (profile : PacketProfile) (list : PeakList) where
     pub with-labels-longer : OnLongerBytes outcomeOfPlaces (λ s r (_ : Unit {0}). onOk (λ v. (v, streamsAt s (v .labels))) (outcomeOfPlaces r) ≡ withLabels h profile list s) (λ q. q ≡ 4)
         (λ _ _. list .next < 2 ^ 62)
     with-labels-longer =
-        places-longer outcomeOfPlaces places-answer-one (λ s v. streamsAt s (v .labels)) (withLabels h profile list) with-labels-prefix 4 (list .next) with-labels-names with-labels-completes
+        standing-longer outcomeOfPlaces places-answer-one (λ s v. streamsAt s (v .labels)) (withLabels h profile list) with-labels-prefix 4 (list .next) with-labels-names with-labels-completes
 
 -- ---- whoever hands a packet out
-pub fits-not-truncated : (capacities : List ℕ) (v : Places) (c : Contents) (more : List (List ℕ)) → NotTruncated (packetIfFits capacities v c more)
+pub fits-not-truncated : (capacities : List ℕ) (v : PacketPlaces) (c : Contents) (more : List (List ℕ)) → NotTruncated (packetIfFits capacities v c more)
 unfolding packetIfFits listsIfFit
 fits-not-truncated capacities v c more = not-truncated-room (fits (lengths (listsOf c ++ more)) capacities) ((recordOf v, c .labels .nodes), listsOf c ++ more)
 

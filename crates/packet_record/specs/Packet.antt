@@ -11,12 +11,12 @@ use Rattle.peaks.specs.Peaks.{Peak, peaksAt}
 use Rattle.packet_peak_list.specs.PeakList.{itemSize, listPlace}
 use Rattle.packet_peak_list.specs.declared.PeakList.{PeakList}
 use Rattle.packet_labels.specs.Labels.{Streams, labels, labelPlaces, streamsAt, readLabels}
-use Rattle.packet_profile.specs.Profile.{Axis, Chunk, located}
+use Rattle.packet_profile.specs.Profile.{Axis, Chunk, profileRecord}
 use Rattle.packet_record.specs.declared.PacketProfile.{PacketProfile}
 use Rattle.packet_record.specs.declared.PacketProfile.the-variants.{Absent, Present}
-use Rattle.packet_record.specs.declared.Places.{Places}
-use Rattle.packet_record.specs.declared.PlacesAnswer.{PlacesAnswer}
-use Rattle.packet_record.specs.declared.PlacesAnswer.the-variants as places
+use Rattle.packet_record.specs.declared.PacketPlaces.{PacketPlaces}
+use Rattle.packet_record.specs.declared.PacketPlacesAnswer.{PacketPlacesAnswer}
+use Rattle.packet_record.specs.declared.PacketPlacesAnswer.the-variants as places
 use Rattle.packet_record.specs.declared.ScanDataPacket.{ScanDataPacket}
 use Rattle.packet_record.specs.declared.PacketAnswer.{PacketAnswer}
 use Rattle.packet_record.specs.declared.PacketAnswer.the-variants as answer
@@ -43,28 +43,28 @@ afterPeaks h profile peaks = labels h (length peaks) >>= λ l. done (record { he
 -- where the profile of the packet at `at` stands: after the header, of 40 bytes
 abbrev pub profilePlace : ℕ → ℕ → OptionalProfile → PacketProfile
 profilePlace layout at absent = Absent
-profilePlace layout at (present p) = Present (located layout (at + 40) p)
+profilePlace layout at (present p) = Present (profileRecord layout (at + 40) p)
 
 -- where the parts of a packet stand whose peak list starts at `at`: the labels follow the list
-unfoldable pub placesFrom : PacketProfile → ℕ → Packet → Places
+unfoldable pub placesFrom : PacketProfile → ℕ → Packet → PacketPlaces
 placesFrom profile at p =
     let list = listPlace (p .header) at (p .contents .peaks) in
     record { header = p .header; profile = profile; list = list; labels = labelPlaces (p .header) (list .next) (p .contents .labels) }
 
 -- what stands at such places
-abbrev pub contentsAt : List ℕ → Places → Contents
+abbrev pub contentsAt : List ℕ → PacketPlaces → Contents
 contentsAt s v = record { peaks = peaksAt (v .list .wide) (itemSize (v .list .wide)) s (v .list .at) (v .list .count); labels = streamsAt s (v .labels) }
 
 -- what `with_labels` answers, with the streams that stand there
-unfoldable pub withLabels : PacketHeader → PacketProfile → PeakList → List ℕ → Outcome (Places × Streams)
+unfoldable pub withLabels : PacketHeader → PacketProfile → PeakList → List ℕ → Outcome (PacketPlaces × Streams)
 withLabels h profile list run = onOk (λ l. (record { header = h; profile = profile; list = list; labels = l .0 }, l .1)) (readLabels h (list .count) (list .next) run)
 
-abbrev pub outcomeOfPlaces : PlacesAnswer → Outcome Places
+abbrev pub outcomeOfPlaces : PacketPlacesAnswer → Outcome PacketPlaces
 outcomeOfPlaces (places.Places p) = ok p
 outcomeOfPlaces (places.Refused r) = outcomeOfRefusal r
 
 -- the answer's record
-unfoldable pub recordOf : Places → ScanDataPacket
+unfoldable pub recordOf : PacketPlaces → ScanDataPacket
 recordOf v =
     record {
       header = v .header;
@@ -81,7 +81,7 @@ abbrev pub listsOf : Contents → List (List ℕ)
 listsOf c = firsts (c .peaks) ∷ seconds (c .peaks) ∷ c .labels .descriptors ∷ c .labels .resolutions ∷ []
 
 -- what is handed out: the record, with the bytes of the nodes, which stay where they are; and the lists, and more, if they fit
-unfoldable pub packetIfFits : List ℕ → Places → Contents → List (List ℕ) → Outcome ((ScanDataPacket × List ℕ) × List (List ℕ))
+unfoldable pub packetIfFits : List ℕ → PacketPlaces → Contents → List (List ℕ) → Outcome ((ScanDataPacket × List ℕ) × List (List ℕ))
 packetIfFits capacities v c more = listsIfFit capacities (recordOf v, c .labels .nodes) (listsOf c ++ more)
 
 abbrev pub outcomeOf : PacketAnswer → Outcome ScanDataPacket

@@ -45,15 +45,15 @@ pub enum PacketAnswer {
 }
 
 // Where a packet's parts stand, before anything is written.
-pub struct Places {
+pub struct PacketPlaces {
     pub header: PacketHeader,
     pub profile: PacketProfile,
     pub list: PeakList,
     pub labels: Labels,
 }
 
-pub enum PlacesAnswer {
-    Places(Places),
+pub enum PacketPlacesAnswer {
+    Places(PacketPlaces),
     Refused(Refusal),
 }
 
@@ -63,12 +63,12 @@ pub fn with_labels(
     header: PacketHeader,
     profile: PacketProfile,
     list: PeakList,
-) -> PlacesAnswer
+) -> PacketPlacesAnswer
     ensures { λ r. ⌜ onOk (λ v. (v, streamsAt (now (run .entry)) (v .labels))) (outcomeOfPlaces r) ≡ withLabels header profile list (now (run .entry)) ⌝ }
 {
     match read_labels(run, list.next, header, list.count) {
-        LabelsAnswer::Refused(r) => PlacesAnswer::Refused(r),
-        LabelsAnswer::Labels(labels) => PlacesAnswer::Places(Places {
+        LabelsAnswer::Refused(r) => PacketPlacesAnswer::Refused(r),
+        LabelsAnswer::Labels(labels) => PacketPlacesAnswer::Places(PacketPlaces {
             header,
             profile,
             list,
@@ -80,7 +80,7 @@ pub fn with_labels(
 // A packet's peaks and labels, over the fronts of slices that hold them.
 fn write_lists(
     run: &[u8],
-    places: Places,
+    places: PacketPlaces,
     mz: &mut [u64],
     abundance: &mut [u32],
     descriptors: &mut [u32],
@@ -93,7 +93,7 @@ fn write_lists(
     let list = places.list;
     let labels = places.labels;
     let stride = item_size(list.wide);
-    peaks::hand_out(run, list.at, stride, list.count, list.wide, mz, abundance);
+    peaks::write_peaks(run, list.at, stride, list.count, list.wide, mz, abundance);
     copy_u32s(
         run,
         labels.descriptors_at,
@@ -111,7 +111,7 @@ fn write_lists(
 }
 
 // The answer's record.
-fn record_of(places: Places) -> ScanDataPacket
+fn record_of(places: PacketPlaces) -> ScanDataPacket
     ensures { λ r. ⌜ r ≡ recordOf places ⌝ }
 {
     let list = places.list;
@@ -131,9 +131,9 @@ fn record_of(places: Places) -> ScanDataPacket
 }
 
 // The packet that was found in the run, where the slices hold it.
-pub fn hand_out(
+pub fn write_packet(
     run: &[u8],
-    places: Places,
+    places: PacketPlaces,
     mz: &mut [u64],
     abundance: &mut [u32],
     descriptors: &mut [u32],

@@ -14,7 +14,7 @@ use Rattle.packet_peak_list.specs.declared.HeaderAndPeaks.{HeaderAndPeaks}
 use Rattle.packet_peak_list.proofs.Skipping.{answered, Skipped, skipped-of}
 use Rattle.packet_labels.specs.Labels.{Streams}
 use Rattle.packet_record.specs.Packet.{absent, Packet, afterPeaks, placesFrom, contentsAt, withLabels, packetIfFits}
-use Rattle.packet_record.specs.declared.Places.{Places}
+use Rattle.packet_record.specs.declared.PacketPlaces.{PacketPlaces}
 use Rattle.packet_record.specs.declared.PacketProfile.the-variants.{Absent}
 use Rattle.packet_record.proofs.Found.{ran-out-after, found-after}
 use Rattle.packet_skipping.specs.Skipping.{packetSkipping, readSkipProfile}
@@ -44,10 +44,10 @@ module _ (capacities s : List ℕ) (at : ℕ) where
         let r = ran-out-after packetSkipping s at (afterSkipped (p .header) at) (p .header) absent (k .peaks) (p .list) Absent to-after (k .is) f in
         rw (r .one, r .part, r .there)
 
-    pub whole-packet : {v : Places} {l : Streams} → ok (v, l) ≡ withLabels (p .header) Absent (p .list) s
+    pub whole-packet : {v : PacketPlaces} {l : Streams} → ok (v, l) ≡ withLabels (p .header) Absent (p .list) s
         → packetIfFits capacities v (contentsAt s v) [] ≡ readSkipProfile capacities at s
     unfolding readSkipProfile outcome
     whole-packet {v} f =
-        let places : Packet → Places = λ q. placesFrom Absent (afterSkipped (q .header) at) q in
+        let places : Packet → PacketPlaces = λ q. placesFrom Absent (afterSkipped (q .header) at) q in
         let w = found-after packetSkipping s at (afterSkipped (p .header) at) (p .header) absent (k .peaks) (p .list) Absent to-after (k .is) places (λ _. refl) (k .stand) f in
-        ap (λ c. packetIfFits capacities v c []) (w .contents) ∙ ap (λ (q : Places). packetIfFits capacities q (w .packet .contents) []) (w .placed) ∙ rw (w .there)
+        ap (λ c. packetIfFits capacities v c []) (w .contents) ∙ ap (λ (q : PacketPlaces). packetIfFits capacities q (w .packet .contents) []) (w .placed) ∙ rw (w .there)

@@ -6,10 +6,10 @@ ghost use Rattle.packet_skipping.specs.Skipping.{readSkipProfile};
 use packet_peak_list::SkippedAnswer;
 use packet_peak_list::skip_to_peaks;
 use packet_record::PacketAnswer;
+use packet_record::PacketPlacesAnswer;
 use packet_record::PacketProfile;
-use packet_record::PlacesAnswer;
-use packet_record::hand_out;
 use packet_record::with_labels;
+use packet_record::write_packet;
 
 pub fn read_skip_profile(
     run: &[u8],
@@ -29,9 +29,9 @@ pub fn read_skip_profile(
             let header = p.header;
             let list = p.list;
             match with_labels(run, header, PacketProfile::Absent, list) {
-                PlacesAnswer::Refused(r) => PacketAnswer::Refused(r),
-                PlacesAnswer::Places(places) => {
-                    hand_out(run, places, mz, abundance, descriptors, resolutions)
+                PacketPlacesAnswer::Refused(r) => PacketAnswer::Refused(r),
+                PacketPlacesAnswer::Places(places) => {
+                    write_packet(run, places, mz, abundance, descriptors, resolutions)
                 }
             }
         }

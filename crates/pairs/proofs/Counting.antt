@@ -24,7 +24,7 @@ module _ (p : Profile) (s : List ℕ) where
   counting-first = record { passed = omega arith; fits = omega arith; total = rw (sub-zero, zero-add) }
 
   module _ {i at w : ℕ} (c : Counting i at w) where
-    pub counting-more : i < p .«peak_count» → {v : Signal} → There (p .fudged) s at v → Counting (i + 1) (v .end) (w + v .points)
+    pub counting-more : i < p .«peak_count» → {v : Signal} → There (p .fudged) s at v → Counting (i + 1) (v .next) (w + v .points)
     counting-more l {v} t =
         let e = ap (sum points) (chunks-more (p .fudged) s (p .«peak_count») i at l (t .here)) in
         record {

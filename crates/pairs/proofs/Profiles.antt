@@ -9,7 +9,7 @@ use Rattle.refusal.specs.Outcome.{ok}
 use Rattle.parser.specs.Parser.{parsed, parse, repeat}
 use Rattle.parser.specs.Walk.{sum}
 use Rattle.parser.proofs.Walk.{first-of}
-use Rattle.packet_profile.specs.Profile.{Chunk, points, chunk, located, readProfile}
+use Rattle.packet_profile.specs.Profile.{Chunk, points, chunk, profileRecord, readProfile}
 use Rattle.packet_profile.specs.declared.Profile.{Profile}
 use Rattle.packet_profile.proofs.Answers.{profiled}
 use Rattle.packet_profile.proofs.LongerBytes.{same-chunks}
@@ -28,7 +28,7 @@ module _ (layout : ℕ) (s : List ℕ) (at : ℕ) {v : Profile} {next : ℕ} (e 
   read-chunks = chunks-parsed (v .fudged) s (v .«peak_count») (v .«chunks_at») (profiled layout s at e .chunked)
 
   pub read-points : sum points (chunksOf v s) ≡ v .points
-  unfolding located
+  unfolding profileRecord
   read-points = ap (sum points) read-chunks ∙ sym (ap (λ (p : Profile). p .points) (profiled layout s at e .made))
 
   pub read-pairs : (coefficients : List ℕ) → length (profilePairs v coefficients s) ≡ v .points

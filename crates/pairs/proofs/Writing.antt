@@ -112,7 +112,7 @@ module _ (p : Profile) (coefficients s : List ℕ) (mz₀ intensity₀ : List Fl
       new : List Pair
       new = pairsIn (binsOf p) coefficients (chunkAt (p .fudged) s at (v .points))
 
-      more : profilePairs p coefficients s ≡ (w .pairs ++ new) ++ pairsOf (binsOf p) coefficients (chunksFrom (p .fudged) s (p .«peak_count» - (i + 1)) (v .end))
+      more : profilePairs p coefficients s ≡ (w .pairs ++ new) ++ pairsOf (binsOf p) coefficients (chunksFrom (p .fudged) s (p .«peak_count» - (i + 1)) (v .next))
       unfolding pairsOf new
       more =
           let e = ap (pairsOf (binsOf p) coefficients) (chunks-more (p .fudged) s (p .«peak_count») i at less (t .here)) in
@@ -124,14 +124,14 @@ module _ (p : Profile) (coefficients s : List ℕ) (mz₀ intensity₀ : List Fl
 
       pub with-chunk : n + v .points ≤ sum points (chunksOf p s)
       with-chunk =
-          let e : sum points (chunksOf p s) ≡ length (w .pairs ++ new) + length (pairsOf (binsOf p) coefficients (chunksFrom (p .fudged) s (p .«peak_count» - (i + 1)) (v .end))) =
+          let e : sum points (chunksOf p s) ≡ length (w .pairs ++ new) + length (pairsOf (binsOf p) coefficients (chunksFrom (p .fudged) s (p .«peak_count» - (i + 1)) (v .next))) =
           sym (counted p coefficients s) ∙ ap length more ∙ length-append (w .pairs ++ new) _ in
           omega (arith, w .count, length-append (w .pairs) new, size-new)
 
       pub writing-more : (firstBin fudge : ℕ) → firstBin ≡ littleEndian (bytes s at 4) → fudge ≡ fudgeAt (p .fudged) s at → (r : CountAnswer) (ys zs : List Float) (k l : ℕ)
           → k ≡ length mz - n → l ≡ length intensity - n
           → LeftPairs (λ a b. pairsIfFit a b (chunkPairs (binsOf p) firstBin fudge coefficients s (v .at) (v .points))) (take k (drop n mz)) (take l (drop n intensity)) r ys zs
-          → Writing (take n mz ++ (ys ++ drop k (drop n mz))) (take n intensity ++ (zs ++ drop l (drop n intensity))) (n + v .points) (i + 1) (v .end)
+          → Writing (take n mz ++ (ys ++ drop k (drop n mz))) (take n intensity ++ (zs ++ drop l (drop n intensity))) (n + v .points) (i + 1) (v .next)
       unfolding new
       writing-more firstBin fudge hb hf r ys zs k l hk hl left =
           let same : chunkPairs (binsOf p) firstBin fudge coefficients s (v .at) (v .points) ≡ new = rw (hb, hf, t .starts) (written-pairs (binsOf p) coefficients (p .fudged) s at (v .points)) in

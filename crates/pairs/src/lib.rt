@@ -26,7 +26,7 @@ use reader::u64_at;
 use refusal::CountAnswer;
 use refusal::Refusal;
 
-// How many pairs a profile has. A count of chunks that the run does not hold costs no more turns than it has chunks.
+// How many pairs a profile has. The walk ends at the first chunk that the run does not hold, whatever count the record says.
 fn count_pairs(run: &[u8], profile: Profile) -> u64
     ensures { λ r. ⌜ r ≡ sum pointsOf (chunksOf profile (now (run .entry))) ⌝ }
 {
@@ -38,7 +38,7 @@ fn count_pairs(run: &[u8], profile: Profile) -> u64
             return pairs;
         };
         pairs = pairs + found.points;
-        at = found.end;
+        at = found.next;
         passed = passed + 1;
     }
     pairs
@@ -80,7 +80,7 @@ fn write_pairs(
             &mut intensity[n..],
         );
         n = n + signal.points as usize;
-        at = signal.end;
+        at = signal.next;
         i = i + 1;
     }
 }

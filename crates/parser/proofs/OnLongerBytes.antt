@@ -5,7 +5,7 @@ use mathlib.Core.List.{List, _++_}
 use lib.ListN.{length}
 use Rattle.refusal.specs.Outcome.{Outcome, ranOut, onOk}
 use Rattle.lists.specs.Left.{Left, after}
-use Rattle.parser.specs.LongerBytes.{Bytes, Held, OnLongerBytes, PrefixProperty, Names, CompletesOn, Completes}
+use Rattle.parser.specs.LongerBytes.{Bytes, OnLongerBytes, PrefixProperty, Names, CompletesOn, Completes}
 use Rattle.parser.proofs.PrefixedBy.{on-ok-out}
 
 -- a part that is near, where it ran out

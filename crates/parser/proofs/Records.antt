@@ -1,12 +1,12 @@
 -- A call of one part, and a part of one size: what a record of its own needs besides its layout, each from one law.
-use mathlib.Core.Path.{_≡_, refl, sym, _∙_}
+use mathlib.Core.Path.{_≡_, sym, _∙_}
 use Prim.Native.Nat.{ℕ, _+_, _^_, _≤_, _<_}
 use mathlib.Core.List.{List}
 use lib.Dec.{leb}
 use borrow.Author.Tests.{leb-true, le-leb, lt-leb}
-use Rattle.refusal.specs.Outcome.{Outcome, ok, refused, ranOut}
-use Rattle.parser.specs.Parser.{Parser, Parsed, short, parsed, left, parse}
-use Rattle.parser.specs.Call.{onward, outcome, single}
+use Rattle.refusal.specs.Outcome.{Outcome, ranOut}
+use Rattle.parser.specs.Parser.{Parser, parsed, left, parse}
+use Rattle.parser.specs.Call.{outcome, single}
 use Rattle.parser.specs.Internal.{Sized, value}
 use Rattle.parser.specs.LongerBytes.{OnLongerBytes, PrefixProperty, Names, Completes}
 use Rattle.parser.proofs.Prefix.{within-parsed}

@@ -1,4 +1,4 @@
--- An answer is known by what it tells: a promise that is stated through it leaves one answer.
+-- Answers of one outcome are equal, so a promise that is stated through `outcomeOf` leaves one answer.
 use mathlib.Core.Path.{_≡_, ap}
 use Prim.Native.Nat.{ℕ}
 use Rattle.refusal.proofs.OneAnswer.{refusal-one}

@@ -4,7 +4,7 @@ ghost use mathlib.Core.Path.{_≡_};
 ghost use Prim.Native.Nat.{_+_, _*_};
 ghost use Rattle.lists.specs.Left.{firsts, seconds, pairsIfFit, LeftList, LeftPairs};
 ghost use Rattle.lists.specs.Written.{each, fitting};
-ghost use Rattle.parser.specs.Parser.{bytes, littleEndian, wordAt};
+ghost use Rattle.parser.specs.Parser.{wordAt};
 ghost use Rattle.peaks.specs.Peaks.{widenedBits, peaksAt};
 use float_bits::bits_of_f64;
 use float_bits::widened;
@@ -47,7 +47,7 @@ fn copy_widened(run: &[u8], at: u64, stride: u64, n: u64, out: &mut [u64]) -> Co
 }
 
 // The columns of n peaks, each `stride` bytes after the one before: an m/z, and right after it the abundance.
-fn write_peaks(
+fn write_columns(
     run: &[u8],
     at: u64,
     stride: u64,
@@ -69,7 +69,7 @@ fn write_peaks(
 }
 
 // The same, where both slices hold them.
-pub fn hand_out(
+pub fn write_peaks(
     run: &[u8],
     at: u64,
     stride: u64,
@@ -81,7 +81,7 @@ pub fn hand_out(
     ensures { λ r. ⌜ LeftPairs (λ m a. pairsIfFit m a (peaksAt wide stride (now (run .entry)) at n)) (now (mz .entry)) (now (abundance .entry)) r (now (mz .exit)) (now (abundance .exit)) ⌝ }
 {
     if holds(n, mz.len() as u64, holds(n, abundance.len() as u64, true)) {
-        write_peaks(run, at, stride, n, wide, mz, abundance);
+        write_columns(run, at, stride, n, wide, mz, abundance);
         return CountAnswer::Count(n);
     }
     CountAnswer::Refused(Refusal::NoRoom)

@@ -1,20 +1,6 @@
 // Answers the requests of docs/REQUESTS.md, which it reads from standard input, by the decoder's public functions.
 // The program in reference/ prints the same.
-mod answer;
-mod names;
-mod packets;
-mod peak_labels;
-mod places;
-mod preambles;
-mod profile_pairs;
-mod records;
-mod request;
-mod scan_events;
-mod scans;
-mod searches;
 mod serve;
-mod trays;
-mod values;
 mod words;
 
 fn main() {

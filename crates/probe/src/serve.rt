@@ -1,9 +1,9 @@
 // Reads requests, a line each, and answers them in turn.
 ghost use Prim.Native.Nat.{_≤_};
 ghost use lib.ListN.{length};
-use crate::answer;
 use crate::words;
 use libc::STDIN_FILENO;
+use probe_text::answer;
 
 // The longest line that may be a request.
 const LONGEST: usize = 65536;

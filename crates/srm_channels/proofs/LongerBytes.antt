@@ -18,7 +18,7 @@ use Rattle.lists.proofs.Left.{fits-true}
 use Rattle.lists.proofs.Cases.{bool-cases}
 use Rattle.srm_transition.proofs.Local.{Local, le-there}
 use Rattle.srm_transition.proofs.Places.{places-none, values-longer}
-use Rattle.srm_channels.specs.Channels.{channelTest, channelAt, channelsIn, columns, channelList}
+use Rattle.srm_channels.specs.Channels.{channelTest, channelAt, channelsIn, channelLists, channelList}
 use Rattle.srm_channels.specs.LongerBytes.{ListAnswered, ListRefused, ListOnLongerBytes}
 use Rattle.srm_channels.specs.declared.Channel.{Channel}
 
@@ -47,7 +47,7 @@ fewer-fit m n l (a ∷ b ∷ []) h = absurd (fits-true (n ∷ n ∷ n ∷ []) (a
 module _ (events : List ℕ) (xs : List (List ℕ)) where
   -- whether the list of the bytes s fits
   abbrev Fits : List ℕ → Bool
-  Fits s = fits (lengths (columns (channelsIn events s))) (lengths xs)
+  Fits s = fits (lengths (channelLists (channelsIn events s))) (lengths xs)
 
   -- an answer, by what fits
   answers : (s : List ℕ) (r : CountAnswer) (ys : List (List ℕ)) → LeftLists (channelList events s) xs (outcomeOfCount r) ys

@@ -41,9 +41,9 @@ unfoldable pub channelsIn : List ℕ → List ℕ → List Channel
 channelsIn events s = map (channelAt s) (placesWhere (channelTest events s) 24 (length s - 48))
 
 -- the lists that take them: event numbers, Q1 and collision energies
-abbrev pub columns : List Channel → List (List ℕ)
-columns channels = map (λ c. c .event) channels ∷ map (λ c. c .q1) channels ∷ map (λ c. c .«collision_energy») channels ∷ []
+abbrev pub channelLists : List Channel → List (List ℕ)
+channelLists channels = map (λ c. c .event) channels ∷ map (λ c. c .q1) channels ∷ map (λ c. c .«collision_energy») channels ∷ []
 
 -- what `flatv66_event_channels` answers: how many channels there are, with their lists, or refusal 8
 unfoldable pub channelList : List ℕ → List ℕ → List ℕ → Outcome (ℕ × List (List ℕ))
-channelList events s capacities = listsIfFit capacities (length (channelsIn events s)) (columns (channelsIn events s))
+channelList events s capacities = listsIfFit capacities (length (channelsIn events s)) (channelLists (channelsIn events s))

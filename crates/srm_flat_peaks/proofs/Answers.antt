@@ -60,7 +60,7 @@ module _ (end cumEnd dataSize : ℕ) (s : List ℕ) where
 abbrev foundAt : ℕ → List Peak → Outcome (ℕ × ℕ)
 foundAt place peaks = ok (place, length peaks)
 
--- what a call tells of attempts that were attemptAnswer
+-- what a call answers of an attempt
 abbrev pub outcomeOfAttempt : AttemptAnswer → Outcome (ℕ × ℕ)
 outcomeOfAttempt (Accepted place count) = ok (place, count)
 outcomeOfAttempt PassedOver = refused 2 []

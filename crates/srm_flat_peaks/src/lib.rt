@@ -10,7 +10,7 @@ ghost use Rattle.srm_flat_peaks.specs.Flat.{isPlausible, attempt, attemp
 ghost use Rattle.srm_flat_peaks.specs.Internal.{attemptAnswer};
 use float_bits::widened;
 use peaks::PeaksPlace;
-use peaks::hand_out;
+use peaks::write_peaks;
 use reader::remaining;
 use reader::saturating_add;
 use reader::saturating_sub;
@@ -34,7 +34,7 @@ fn is_plausible(bits: u32) -> bool
     mz == 0.0 || (mz > 10.0 && mz < 10000.0)
 }
 
-// An attempt at data_size - subtract peaks, of a record that ends at `end`. Peaks that are there are attemptAnswer by the first.
+// An attempt at data_size - subtract peaks, of a record that ends at `end`. Peaks that are there are accepted by the first.
 fn attempt_at(run: &[u8], end: u64, cum_end: u64, data_size: u32, subtract: u32) -> AttemptAnswer
     ensures { λ r. ⌜ r ≡ attemptAnswer (parse (attempt end «cum_end» «data_size» subtract) (now (run .entry)) end) ⌝ }
 {
@@ -97,6 +97,6 @@ pub fn read_flat_peaks(
 {
     match find_flat_peaks(run, data, cum_end, data_size) {
         PeaksPlace::Refused(r) => CountAnswer::Refused(r),
-        PeaksPlace::At { place, count } => hand_out(run, place, 8, count, false, mz, abundance),
+        PeaksPlace::At { place, count } => write_peaks(run, place, 8, count, false, mz, abundance),
     }
 }

@@ -12,7 +12,7 @@ use Rattle.parser.specs.Parser.{saturatingAdd}
 use Rattle.parser.specs.Call.{outcome, single}
 use Rattle.peaks.specs.Peaks.{Peak, peaksAt}
 use Rattle.peaks.proofs.Columns.{length-peaks}
-use Rattle.srm_scan.specs.Scan.{scan, peaks, readScan, findPeaks, windows, readWindows}
+use Rattle.srm_scan.specs.Scan.{scan, peaks, readSrmPeaks, findSrmPeaks, windows, readSrmWindows}
 use Rattle.srm_scan.specs.Internal.{channels, windowsAt}
 use Rattle.srm_scan.proofs.Tables.{peaks-sized, windows-sized, peaks-are, windows-are}
 use Rattle.srm_scan.proofs.Counting.{by-channels}
@@ -33,8 +33,8 @@ module _ (place offset : ℕ) (s : List ℕ) (at : ℕ) (is : at ≡ saturatingA
       → outcome (single 4 (saturatingAdd place offset) (scan peaks) (λ ps _. follow ps)) s ≡ andThen (channels 20 s at) (λ n. follow (list n))
   then-by follow = rw (← is) (by-channels 20 peaks peaks-sized s at list (peaks-are s at) list-none follow)
 
-  found-by : findPeaks place offset s ≡ onOk placed (channels 20 s at)
-  unfolding findPeaks
+  found-by : findSrmPeaks place offset s ≡ onOk placed (channels 20 s at)
+  unfolding findSrmPeaks
   found-by =
       rw (← is) (by-channels 20 peaks peaks-sized s at list (peaks-are s at) list-none (λ ps. ok (at + 36 + length ps * 8, length ps)))
       ∙ go (channels 20 s at)
@@ -43,22 +43,22 @@ module _ (place offset : ℕ) (s : List ℕ) (at : ℕ) (is : at ≡ saturatingA
       go (ok n) = rw (length-peaks false 12 s (at + 36 + n * 8) n)
       go (refused number carries) = refl
 
-  pub found : (n : ℕ) → ok n ≡ channels 20 s at → ok (at + 36 + n * 8, n) ≡ findPeaks place offset s
+  pub found : (n : ℕ) → ok n ≡ channels 20 s at → ok (at + 36 + n * 8, n) ≡ findSrmPeaks place offset s
   found n e = rw (found-by, ← e)
 
-  pub find-refused : {number : ℕ} {carries : List ℕ} → refused number carries ≡ channels 20 s at → refused number carries ≡ findPeaks place offset s
+  pub find-refused : {number : ℕ} {carries : List ℕ} → refused number carries ≡ channels 20 s at → refused number carries ≡ findSrmPeaks place offset s
   find-refused e = rw (found-by, ← e)
 
   -- the windows
   module _ (l h : ℕ) where
-    windows-by : readWindows l h place offset s ≡ andThen (channels 8 s at) (λ n. pairsIfFit l h (windowsAt s (at + 32) n))
-    unfolding readWindows windowsAt
+    windows-by : readSrmWindows l h place offset s ≡ andThen (channels 8 s at) (λ n. pairsIfFit l h (windowsAt s (at + 32) n))
+    unfolding readSrmWindows windowsAt
     windows-by = rw (← is) (by-channels 8 windows windows-sized s at (windowsAt s (at + 32)) (windows-are s at) (sym (each-none _)) _)
 
-    pub windows-there : (n : ℕ) → ok n ≡ channels 8 s at → pairsIfFit l h (windowsAt s (at + 32) n) ≡ readWindows l h place offset s
+    pub windows-there : (n : ℕ) → ok n ≡ channels 8 s at → pairsIfFit l h (windowsAt s (at + 32) n) ≡ readSrmWindows l h place offset s
     windows-there n e = rw (windows-by, ← e)
 
-    pub no-windows : {number : ℕ} {carries : List ℕ} → refused number carries ≡ channels 8 s at → refused number carries ≡ readWindows l h place offset s
+    pub no-windows : {number : ℕ} {carries : List ℕ} → refused number carries ≡ channels 8 s at → refused number carries ≡ readSrmWindows l h place offset s
     no-windows e = rw (windows-by, ← e)
 
 -- whatever follows of peaks that were found, or of a refusal
@@ -66,7 +66,7 @@ module _ {A : Type 0} (follow : List Peak → Outcome A) (place offset : ℕ) (s
   abbrev at : ℕ
   at = saturatingAdd place offset
 
-  pub then-found : (p n : ℕ) → ok (p, n) ≡ findPeaks place offset s → follow (peaksAt false 12 s p n) ≡ outcome (single 4 (saturatingAdd place offset) (scan peaks) (λ ps _. follow ps)) s
+  pub then-found : (p n : ℕ) → ok (p, n) ≡ findSrmPeaks place offset s → follow (peaksAt false 12 s p n) ≡ outcome (single 4 (saturatingAdd place offset) (scan peaks) (λ ps _. follow ps)) s
   then-found p n e =
       let m = made-of (placed place offset s at refl) (channels 20 s at) (e ∙ found-by place offset s at refl) in
       by-count (m .value) p n (m .is) (ap (λ (z : ℕ × ℕ). z .0) (m .made)) (ap (λ (z : ℕ × ℕ). z .1) (m .made))
@@ -75,16 +75,16 @@ module _ {A : Type 0} (follow : List Peak → Outcome A) (place offset : ℕ) (s
           → follow (peaksAt false 12 s p n) ≡ outcome (single 4 (saturatingAdd place offset) (scan peaks) (λ ps _. follow ps)) s
       by-count k p n e here count = rw (then-by place offset s at refl follow, ← e, here, count)
 
-  pub then-refused : {number : ℕ} {carries : List ℕ} → refused number carries ≡ findPeaks place offset s → refused number carries ≡ outcome (single 4 (saturatingAdd place offset) (scan peaks) (λ ps _. follow ps)) s
+  pub then-refused : {number : ℕ} {carries : List ℕ} → refused number carries ≡ findSrmPeaks place offset s → refused number carries ≡ outcome (single 4 (saturatingAdd place offset) (scan peaks) (λ ps _. follow ps)) s
   then-refused e =
       let r = refused-of (placed place offset s at refl) (channels 20 s at) (e ∙ found-by place offset s at refl) in
       rw (then-by place offset s at refl follow, ← r)
 
 module _ (place offset : ℕ) (s : List ℕ) (m a : ℕ) where
-  pub read-found : (p n : ℕ) → ok (p, n) ≡ findPeaks place offset s → pairsIfFit m a (peaksAt false 12 s p n) ≡ readScan m a place offset s
-  unfolding readScan
+  pub read-found : (p n : ℕ) → ok (p, n) ≡ findSrmPeaks place offset s → pairsIfFit m a (peaksAt false 12 s p n) ≡ readSrmPeaks m a place offset s
+  unfolding readSrmPeaks
   read-found = then-found (pairsIfFit m a) place offset s
 
-  pub read-refused : {number : ℕ} {carries : List ℕ} → refused number carries ≡ findPeaks place offset s → refused number carries ≡ readScan m a place offset s
-  unfolding readScan
+  pub read-refused : {number : ℕ} {carries : List ℕ} → refused number carries ≡ findSrmPeaks place offset s → refused number carries ≡ readSrmPeaks m a place offset s
+  unfolding readSrmPeaks
   read-refused = then-refused (pairsIfFit m a) place offset s

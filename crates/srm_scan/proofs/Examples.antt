@@ -9,7 +9,7 @@ use Rattle.parser.specs.Parser.{parse, repeat, counted}
 use Rattle.parser.specs.Call.{outcome}
 use Rattle.lists.specs.Left.{pairsIfFit}
 use Rattle.peaks.specs.Peaks.{peak}
-use Rattle.srm_scan.specs.Scan.{scan, channel, peaks, readScan, findPeaks, window, windows, readWindows}
+use Rattle.srm_scan.specs.Scan.{scan, channel, peaks, readSrmPeaks, findSrmPeaks, window, windows, readSrmWindows}
 
 -- a byte, then a scan: one channel; its window of 10 to 100; its number 7, 500.03125 and 2.0
 abbrev one : List ℕ
@@ -18,18 +18,18 @@ one =
     ++ (7 ∷ 0 ∷ 0 ∷ 0 ∷ 0 ∷ 4 ∷ 250 ∷ 67 ∷ 0 ∷ 0 ∷ 0 ∷ 64 ∷ [])
 
 peaks-of-one :
-    (readScan 1 1 1 0 one ≡ ok ((0x407f_4080_0000_0000, 0x4000_0000) ∷ []))
-    × (findPeaks 0 1 one ≡ ok (45, 1))
-    × (readScan 1 0 0 1 one ≡ refused 8 [])
-    × (readScan 1 1 0 1 (take 52 one) ≡ refused 1 (4 ∷ []))
-    × (readScan 0 0 1 1 (0 ∷ 0 ∷ 0 ∷ 0 ∷ 0 ∷ 0 ∷ []) ≡ ok [])
-unfolding readScan findPeaks outcome parse scan peaks channel counted repeat peak pairsIfFit ofBits toBits
+    (readSrmPeaks 1 1 1 0 one ≡ ok ((0x407f_4080_0000_0000, 0x4000_0000) ∷ []))
+    × (findSrmPeaks 0 1 one ≡ ok (45, 1))
+    × (readSrmPeaks 1 0 0 1 one ≡ refused 8 [])
+    × (readSrmPeaks 1 1 0 1 (take 52 one) ≡ refused 1 (4 ∷ []))
+    × (readSrmPeaks 0 0 1 1 (0 ∷ 0 ∷ 0 ∷ 0 ∷ 0 ∷ 0 ∷ []) ≡ ok [])
+unfolding readSrmPeaks findSrmPeaks outcome parse scan peaks channel counted repeat peak pairsIfFit ofBits toBits
 peaks-of-one = (refl, refl, refl, refl, refl)
 
 windows-of-one :
-    (readWindows 1 1 0 1 one ≡ ok ((0x4120_0000, 0x42c8_0000) ∷ []))
-    × (readWindows 1 1 0 1 (take 41 one) ≡ ok ((0x4120_0000, 0x42c8_0000) ∷ []))
-    × (readWindows 1 1 0 1 (take 40 one) ≡ refused 1 (4 ∷ []))
-    × (readWindows 0 1 0 1 one ≡ refused 8 [])
-unfolding readWindows outcome parse scan windows window counted repeat pairsIfFit
+    (readSrmWindows 1 1 0 1 one ≡ ok ((0x4120_0000, 0x42c8_0000) ∷ []))
+    × (readSrmWindows 1 1 0 1 (take 41 one) ≡ ok ((0x4120_0000, 0x42c8_0000) ∷ []))
+    × (readSrmWindows 1 1 0 1 (take 40 one) ≡ refused 1 (4 ∷ []))
+    × (readSrmWindows 0 1 0 1 one ≡ refused 8 [])
+unfolding readSrmWindows outcome parse scan windows window counted repeat pairsIfFit
 windows-of-one = (refl, refl, refl, refl)

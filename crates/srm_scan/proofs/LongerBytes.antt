@@ -18,7 +18,7 @@ use Rattle.refusal.specs.Number.{outcomeOfCount}
 use Rattle.lists.specs.Left.{pairsIfFit, LeftPairs}
 use Rattle.peaks.specs.Peaks.{Peak, outcomeOfPlace}
 use Rattle.peaks.proofs.OneAnswer.{place-answer-one}
-use Rattle.srm_scan.specs.Scan.{scan, peaks, readScan, findPeaks, windows, readWindows}
+use Rattle.srm_scan.specs.Scan.{scan, peaks, readSrmPeaks, findSrmPeaks, windows, readSrmWindows}
 use Rattle.srm_scan.proofs.Tables.{skipped-sized, peaks-sized, windows-sized}
 
 -- a scan asks for at most 4 + 2^37 bytes
@@ -54,28 +54,28 @@ module _ (place offset : ℕ) where
   abbrev placed : List Peak → Outcome (ℕ × ℕ)
   placed ps = ok (at + 36 + length ps * 8, length ps)
 
-  pub find-prefix : PrefixProperty (findPeaks place offset)
-  unfolding findPeaks
+  pub find-prefix : PrefixProperty (findSrmPeaks place offset)
+  unfolding findSrmPeaks
   find-prefix = call-prefix 4 at (scan peaks) placed
 
-  pub find-names : Names (λ q. q ≡ 4) (findPeaks place offset)
-  unfolding findPeaks
+  pub find-names : Names (λ q. q ≡ 4) (findSrmPeaks place offset)
+  unfolding findSrmPeaks
   find-names = call-names 4 at (scan peaks) placed (λ _. tt)
 
-  pub find-completes : Completes 4 at (findPeaks place offset)
-  unfolding findPeaks
+  pub find-completes : Completes 4 at (findSrmPeaks place offset)
+  unfolding findSrmPeaks
   find-completes = call-completes 4 at (scan peaks) (λ _. peaks-bounded) placed (λ _. tt)
 
-  pub find-longer : OnLongerBytes outcomeOfPlace (λ s r (_ : Unit {0}). outcomeOfPlace r ≡ findPeaks place offset s) (λ q. q ≡ 4) (λ _ _. at < 2 ^ 62)
-  unfolding findPeaks
+  pub find-longer : OnLongerBytes outcomeOfPlace (λ s r (_ : Unit {0}). outcomeOfPlace r ≡ findSrmPeaks place offset s) (λ q. q ≡ 4) (λ _ _. at < 2 ^ 62)
+  unfolding findSrmPeaks
   find-longer = call-longer 4 at (scan peaks) (λ _. peaks-bounded) outcomeOfPlace place-answer-one placed (λ _. tt)
 
   pub srm-longer : (mz abundance : List ℕ)
-      → OnLongerBytes outcomeOfCount (λ s r (ys : List ℕ × List ℕ). LeftPairs (λ m a. readScan m a place offset s) mz abundance r (ys .0) (ys .1)) (λ q. q ≡ 4) (λ _ _. at < 2 ^ 62)
-  unfolding readScan
+      → OnLongerBytes outcomeOfCount (λ s r (ys : List ℕ × List ℕ). LeftPairs (λ m a. readSrmPeaks m a place offset s) mz abundance r (ys .0) (ys .1)) (λ q. q ≡ 4) (λ _ _. at < 2 ^ 62)
+  unfolding readSrmPeaks
   srm-longer = pairs-longer 4 at (scan peaks) (λ _. peaks-bounded) pairsIfFit not-truncated-pairs
 
   pub windows-longer : (low high : List ℕ)
-      → OnLongerBytes outcomeOfCount (λ s r (ys : List ℕ × List ℕ). LeftPairs (λ l h. readWindows l h place offset s) low high r (ys .0) (ys .1)) (λ q. q ≡ 4) (λ _ _. at < 2 ^ 62)
-  unfolding readWindows
+      → OnLongerBytes outcomeOfCount (λ s r (ys : List ℕ × List ℕ). LeftPairs (λ l h. readSrmWindows l h place offset s) low high r (ys .0) (ys .1)) (λ q. q ≡ 4) (λ _ _. at < 2 ^ 62)
+  unfolding readSrmWindows
   windows-longer = pairs-longer 4 at (scan windows) (λ _. windows-bounded) pairsIfFit not-truncated-pairs

@@ -28,12 +28,12 @@ peaks n = do
 
 -- what `read_scan_srm_v66` answers, where slices of these capacities are lent. The scan starts where the data's place and the offset
 -- lead, added without passing the largest u64
-unfoldable pub readScan : ℕ → ℕ → ℕ → ℕ → List ℕ → Outcome (List Peak)
-readScan mz abundance place offset run = outcome (single 4 (saturatingAdd place offset) (scan peaks) (λ ps _. pairsIfFit mz abundance ps)) run
+unfoldable pub readSrmPeaks : ℕ → ℕ → ℕ → ℕ → List ℕ → Outcome (List Peak)
+readSrmPeaks mz abundance place offset run = outcome (single 4 (saturatingAdd place offset) (scan peaks) (λ ps _. pairsIfFit mz abundance ps)) run
 
 -- what `find_srm_peaks` answers: the place of the first m/z, and how many peaks there are. The next m/z stands 12 bytes after it
-unfoldable pub findPeaks : ℕ → ℕ → List ℕ → Outcome (ℕ × ℕ)
-findPeaks place offset run =
+unfoldable pub findSrmPeaks : ℕ → ℕ → List ℕ → Outcome (ℕ × ℕ)
+findSrmPeaks place offset run =
     let at = saturatingAdd place offset in
     outcome (single 4 at (scan peaks) (λ ps _. ok (at + 36 + length ps * 8, length ps))) run
 
@@ -48,5 +48,5 @@ unfoldable pub windows : ℕ → Parser (List (ℕ × ℕ))
 windows n = counted n 8 window
 
 -- what `read_scan_srm_v66_windows` answers, where slices of these capacities are lent
-unfoldable pub readWindows : ℕ → ℕ → ℕ → ℕ → List ℕ → Outcome (List (ℕ × ℕ))
-readWindows low high place offset run = outcome (single 4 (saturatingAdd place offset) (scan windows) (λ ws _. pairsIfFit low high ws)) run
+unfoldable pub readSrmWindows : ℕ → ℕ → ℕ → ℕ → List ℕ → Outcome (List (ℕ × ℕ))
+readSrmWindows low high place offset run = outcome (single 4 (saturatingAdd place offset) (scan windows) (λ ws _. pairsIfFit low high ws)) run

@@ -6,11 +6,11 @@ ghost use lib.ListN.{length};
 ghost use Rattle.refusal.specs.Number.{outcomeOfCount};
 ghost use Rattle.lists.specs.Left.{pairsIfFit, LeftPairs};
 ghost use Rattle.peaks.specs.Peaks.{outcomeOfPlace};
-ghost use Rattle.srm_scan.specs.Scan.{readScan, findPeaks, readWindows};
+ghost use Rattle.srm_scan.specs.Scan.{readSrmPeaks, findSrmPeaks, readSrmWindows};
 ghost use Rattle.srm_scan.specs.Internal.{channels, windowsAt};
 use lists::holds;
 use peaks::PeaksPlace;
-use peaks::hand_out;
+use peaks::write_peaks;
 use reader::copy_u32s;
 use reader::remaining;
 use reader::saturating_add;
@@ -40,7 +40,7 @@ fn count_channels(run: &[u8], at: u64, size: u64) -> CountAnswer
 
 // The peaks of a scan, found and not handed out. Each m/z stands 12 bytes after the one before, its abundance right after it.
 pub fn find_srm_peaks(run: &[u8], data: u64, offset: u64) -> PeaksPlace
-    ensures { λ r. ⌜ outcomeOfPlace r ≡ findPeaks «data» offset (now (run .entry)) ⌝ }
+    ensures { λ r. ⌜ outcomeOfPlace r ≡ findSrmPeaks «data» offset (now (run .entry)) ⌝ }
 {
     let at = saturating_add(data, offset);
     match count_channels(run, at, 20) {
@@ -59,16 +59,16 @@ pub fn read_scan_srm_v66(
     mz: &mut [u64],
     abundance: &mut [u32],
 ) -> CountAnswer
-    ensures { λ r. ⌜ LeftPairs (λ m a. readScan m a «data» offset (now (run .entry))) (now (mz .entry)) (now (abundance .entry)) r (now (mz .exit)) (now (abundance .exit)) ⌝ }
+    ensures { λ r. ⌜ LeftPairs (λ m a. readSrmPeaks m a «data» offset (now (run .entry))) (now (mz .entry)) (now (abundance .entry)) r (now (mz .exit)) (now (abundance .exit)) ⌝ }
 {
     match find_srm_peaks(run, data, offset) {
         PeaksPlace::Refused(r) => CountAnswer::Refused(r),
-        PeaksPlace::At { place, count } => hand_out(run, place, 12, count, false, mz, abundance),
+        PeaksPlace::At { place, count } => write_peaks(run, place, 12, count, false, mz, abundance),
     }
 }
 
 // n windows, where the slices hold them.
-fn hand_out_windows(run: &[u8], at: u64, n: u64, low: &mut [u32], high: &mut [u32]) -> CountAnswer
+fn write_windows(run: &[u8], at: u64, n: u64, low: &mut [u32], high: &mut [u32]) -> CountAnswer
     requires { ⌜ at ≤ length (now run) + 28 ⌝ }
     ensures { λ r. ⌜ LeftPairs (λ l h. pairsIfFit l h (windowsAt (now (run .entry)) at n)) (now (low .entry)) (now (high .entry)) r (now (low .exit)) (now (high .exit)) ⌝ }
 {
@@ -88,11 +88,11 @@ pub fn read_scan_srm_v66_windows(
     low: &mut [u32],
     high: &mut [u32],
 ) -> CountAnswer
-    ensures { λ r. ⌜ LeftPairs (λ l h. readWindows l h «data» offset (now (run .entry))) (now (low .entry)) (now (high .entry)) r (now (low .exit)) (now (high .exit)) ⌝ }
+    ensures { λ r. ⌜ LeftPairs (λ l h. readSrmWindows l h «data» offset (now (run .entry))) (now (low .entry)) (now (high .entry)) r (now (low .exit)) (now (high .exit)) ⌝ }
 {
     let at = saturating_add(data, offset);
     match count_channels(run, at, 8) {
         CountAnswer::Refused(r) => CountAnswer::Refused(r),
-        CountAnswer::Count(n) => hand_out_windows(run, at + 32, n, low, high),
+        CountAnswer::Count(n) => write_windows(run, at + 32, n, low, high),
     }
 }

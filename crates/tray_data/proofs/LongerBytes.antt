@@ -12,14 +12,14 @@ use Rattle.parser.proofs.OnLongerBytes.{plain-longer, one-part}
 use Rattle.scan_format.specs.declared.ScanDataFormat.{ScanDataFormat}
 use Rattle.scan_format.specs.declared.ScanDataFormat.the-variants.{PacketHeader, FlatV63, FlatV66}
 use Rattle.packet_record.specs.Packet.{Contents}
-use Rattle.packet_record.specs.declared.Places.{Places}
+use Rattle.packet_record.specs.declared.PacketPlaces.{PacketPlaces}
 use Rattle.packet_places.specs.Packet.{packet}
 use Rattle.packet_places.specs.Places.{findPlaces}
 use Rattle.packet_places.proofs.LongerBytes.{packet-bounded, places-prefix, places-names, places-completes}
 use Rattle.srm_flat_peaks.specs.Flat.{flatPeaks, findFlatPeaks}
 use Rattle.srm_flat_peaks.proofs.LongerBytes.{flat-bounded}
 use Rattle.srm_flat_peaks.proofs.LongerBytes as flat
-use Rattle.srm_scan.specs.Scan.{scan, peaks, findPeaks}
+use Rattle.srm_scan.specs.Scan.{scan, peaks, findSrmPeaks}
 use Rattle.srm_scan.proofs.LongerBytes.{peaks-bounded}
 use Rattle.srm_scan.proofs.LongerBytes as srm
 use Rattle.tray_data.specs.Data.{Content, centroids, contentOf, Finding, given, implausible, ofAttempt, ofFinding, dataStart, scanData, packetData, narrowPeaks, findData, outcomeOf}
@@ -28,22 +28,22 @@ use Rattle.tray_data.proofs.OneAnswer.{data-answer-one}
 module _ (place offset size : ℕ) where
   pub data-prefix : (format : ScanDataFormat) → PrefixProperty (findData format place offset size)
   unfolding findData
-  data-prefix PacketHeader = on-ok-prefix (λ (v : Places × Contents). packetData (v .0 .profile) (v .0)) (findPlaces (dataStart place offset)) (places-prefix (dataStart place offset))
+  data-prefix PacketHeader = on-ok-prefix (λ (v : PacketPlaces × Contents). packetData (v .0 .profile) (v .0)) (findPlaces (dataStart place offset)) (places-prefix (dataStart place offset))
   data-prefix FlatV63 = on-ok-prefix (narrowPeaks 8) (findFlatPeaks place offset size) (flat.find-prefix place offset size)
-  data-prefix FlatV66 = on-ok-prefix (narrowPeaks 12) (findPeaks place offset) (srm.find-prefix place offset)
+  data-prefix FlatV66 = on-ok-prefix (narrowPeaks 12) (findSrmPeaks place offset) (srm.find-prefix place offset)
 
   pub data-completes : size < 2 ^ 32 → (format : ScanDataFormat) → Completes 4 (dataStart place offset) (findData format place offset size)
   unfolding findData
   data-completes h PacketHeader =
-      on-ok-completes (λ (v : Places × Contents). packetData (v .0 .profile) (v .0)) (findPlaces (dataStart place offset)) 4 (dataStart place offset) (places-completes (dataStart place offset))
+      on-ok-completes (λ (v : PacketPlaces × Contents). packetData (v .0 .profile) (v .0)) (findPlaces (dataStart place offset)) 4 (dataStart place offset) (places-completes (dataStart place offset))
   data-completes h FlatV63 = on-ok-completes (narrowPeaks 8) (findFlatPeaks place offset size) 4 (dataStart place offset) (flat.find-completes place offset size h)
-  data-completes h FlatV66 = on-ok-completes (narrowPeaks 12) (findPeaks place offset) 4 (dataStart place offset) (srm.find-completes place offset)
+  data-completes h FlatV66 = on-ok-completes (narrowPeaks 12) (findSrmPeaks place offset) 4 (dataStart place offset) (srm.find-completes place offset)
 
   pub data-names : (format : ScanDataFormat) → Names (λ q. q ≡ 4) (findData format place offset size)
   unfolding findData
-  data-names PacketHeader s part h = places-names (dataStart place offset) s part (on-ok-out (λ (v : Places × Contents). packetData (v .0 .profile) (v .0)) (findPlaces (dataStart place offset) s) h)
+  data-names PacketHeader s part h = places-names (dataStart place offset) s part (on-ok-out (λ (v : PacketPlaces × Contents). packetData (v .0 .profile) (v .0)) (findPlaces (dataStart place offset) s) h)
   data-names FlatV63 s part h = flat.find-names place offset size s part (on-ok-out (narrowPeaks 8) (findFlatPeaks place offset size s) h)
-  data-names FlatV66 s part h = srm.find-names place offset s part (on-ok-out (narrowPeaks 12) (findPeaks place offset s) h)
+  data-names FlatV66 s part h = srm.find-names place offset s part (on-ok-out (narrowPeaks 12) (findSrmPeaks place offset s) h)
 
   pub data-longer : size < 2 ^ 32 → (format : ScanDataFormat)
       → OnLongerBytes outcomeOf (λ s r (_ : Unit {0}). outcomeOf r ≡ findData format place offset size s) (λ q. q ≡ 4) (λ _ _. dataStart place offset < 2 ^ 62)

@@ -13,11 +13,11 @@ use Rattle.packet_profile.specs.Profile.{Chunk}
 use Rattle.packet_record.specs.Packet.{OptionalProfile, absent, present}
 use Rattle.packet_record.specs.declared.PacketProfile.{PacketProfile}
 use Rattle.packet_record.specs.declared.PacketProfile.the-variants.{Absent, Present}
-use Rattle.packet_record.specs.declared.Places.{Places}
+use Rattle.packet_record.specs.declared.PacketPlaces.{PacketPlaces}
 use Rattle.packet_places.specs.Packet.{packet}
 use Rattle.packet_places.specs.Places.{findPlaces}
 use Rattle.srm_flat_peaks.specs.Flat.{Attempt, accepted, passedOver, flatPeaks, findFlatPeaks}
-use Rattle.srm_scan.specs.Scan.{scan, peaks, findPeaks}
+use Rattle.srm_scan.specs.Scan.{scan, peaks, findSrmPeaks}
 use Rattle.calibration.specs.declared.Bins.{Bins}
 use Rattle.pairs.specs.Pairs.{Pair, chunksOf, binsOf, pairsOf, peakPairs}
 use Rattle.tray_data.specs.declared.ScanData.{ScanData}
@@ -65,7 +65,7 @@ pairs coefficients (profile bins chunks) = pairsOf bins coefficients chunks
 pairs coefficients (centroids ps) = peakPairs ps
 
 -- what `find_data` answers: the same data, by their places
-abbrev pub packetData : PacketProfile → Places → ScanData
+abbrev pub packetData : PacketProfile → PacketPlaces → ScanData
 packetData Absent v = Peaks (record { at = v .list .at; stride = itemSize (v .list .wide); count = v .list .count; wide = v .list .wide })
 packetData (Present p) v = Profile p
 
@@ -75,7 +75,7 @@ narrowPeaks stride p = Peaks (record { at = p .0; stride = stride; count = p .1;
 unfoldable pub findData : ScanDataFormat → ℕ → ℕ → ℕ → List ℕ → Outcome ScanData
 findData PacketHeader place offset size run = onOk (λ v. packetData (v .0 .profile) (v .0)) (findPlaces (dataStart place offset) run)
 findData FlatV63 place offset size run = onOk (narrowPeaks 8) (findFlatPeaks place offset size run)
-findData FlatV66 place offset size run = onOk (narrowPeaks 12) (findPeaks place offset run)
+findData FlatV66 place offset size run = onOk (narrowPeaks 12) (findSrmPeaks place offset run)
 
 -- what stands at these places, and how many pairs it gives
 abbrev pub contentAt : ScanData → List ℕ → Content

@@ -9,9 +9,9 @@ ghost use Rattle.tray_data.specs.Data.{packetData, narrowPeaks, pairs, f
 use packet_peak_list::item_size;
 use packet_places::find_places;
 use packet_profile::Profile;
+use packet_record::PacketPlaces;
+use packet_record::PacketPlacesAnswer;
 use packet_record::PacketProfile;
-use packet_record::Places;
-use packet_record::PlacesAnswer;
 use pairs::peak_pairs;
 use pairs::to_mz_intensity;
 use peaks::PeaksPlace;
@@ -42,7 +42,7 @@ pub enum DataAnswer {
 }
 
 // A packet's profile, if it has one, else its peaks.
-fn packet_data(places: Places) -> ScanData
+fn packet_data(places: PacketPlaces) -> ScanData
     ensures { λ r. ⌜ r ≡ packetData (places .profile) places ⌝ }
 {
     let list = places.list;
@@ -76,8 +76,8 @@ fn find_packet(run: &[u8], at: u64) -> DataAnswer
     ensures { λ r. ⌜ outcomeOf r ≡ onOk (λ v. packetData (v .0 .profile) (v .0)) (findPlaces at (now (run .entry))) ⌝ }
 {
     match find_places(run, at) {
-        PlacesAnswer::Refused(r) => DataAnswer::Refused(r),
-        PlacesAnswer::Places(places) => DataAnswer::Data(packet_data(places)),
+        PacketPlacesAnswer::Refused(r) => DataAnswer::Refused(r),
+        PacketPlacesAnswer::Places(places) => DataAnswer::Data(packet_data(places)),
     }
 }
 

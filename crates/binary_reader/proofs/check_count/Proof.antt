@@ -21,7 +21,7 @@ use sound.WpLaws.{FmC, fmOf, WpFn-mono}
 use denote.RattleType.{owns}
 use denote.Laws.{Is, shows}
 use denote.Plain.{uint-vals, uint-tells, uint-makes}
-use denote.Builtin.{u8, u64}
+use denote.Builtin.{u64}
 use denote.Ref.{now}
 use denote.Signature.{namedLft}
 use denote.Steps.{owned, peeks, heard, nothing}

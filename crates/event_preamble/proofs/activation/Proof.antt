@@ -15,13 +15,13 @@ returns c =
     let base = t1 .before in
     simp (
       eq-eqb _ 136 (t1 .if1 .taken),
-      ← t2 .before .byte-at .ensures,
+      ← t2 .before .u8-at .ensures,
       t2 .if2 .taken,
       ← base .before .activation-byte .ensures,
       ← base .from-byte .ensures,
       ← t3 .before .named .ensures,
       t3 .if3 .taken,
-      ← c .before .byte-at2 .ensures,
+      ← c .before .u8-at2 .ensures,
       c .if4 .taken,
     )
 

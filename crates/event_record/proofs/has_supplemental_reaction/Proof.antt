@@ -11,7 +11,7 @@ returns : tie.Need-returns
 returns c =
     let j2 = c .before .before in
     let j1 = j2 .before in
-    let power = j1 .before .byte-at .ensures in
+    let power = j1 .before .u8-at .ensures in
     rw (c .with-precursor .ensures)
     (⊎-elim
     (λ w2.
@@ -26,7 +26,7 @@ returns-2 : tie.Need-returns-2
 returns-2 c =
     let j2 = c .before in
     let j1 = j2 .before in
-    let power = j1 .before .byte-at .ensures in
+    let power = j1 .before .u8-at .ensures in
     c .if3 .left
     ∙ ⊎-elim
     (λ w2.

@@ -9,8 +9,8 @@ use borrow.Author.Needs.{needs}
 use Rattle.packet_full.proofs.read_packet.Statement.{statement}
 use Rattle.packet_full.proofs.read_packet.Tie as tie
 
-hand-out-requires : tie.Need-hand-out-requires
-hand-out-requires c κs =
+write-with-chunks-requires : tie.Need-write-with-chunks-requires
+write-with-chunks-requires c κs =
     let v = c .before .before .before .before .before .before .before .before .before in
     let a = v .before .before .before .before .before .before .before .before .before .before .before .before .args in
     profile-there (now (a .run)) (a .at) (sym (ap (λ r. onOk (λ p. (p, contentsAt (now (a .run)) p)) (outcomeOfPlaces r)) (v .places .given .1)) ∙ v .before .before .find-places .ensures)
@@ -25,7 +25,7 @@ returns-2 c =
     let h = c .before .before .before .before .before .before .before .before .before .before .before .before .before .before .before .before in
     let v = h .before .before .before .before .before .before .before .before .before .before in
     let s = now (v .before .before .before .before .before .before .before .before .before .before .before .before .args .run) in
-    left-same (places-found _ _ _ (sym (ap (λ r. onOk (λ p. (p, contentsAt s p)) (outcomeOfPlaces r)) (v .places .given .1)) ∙ v .before .before .find-places .ensures)) (h .hand-out .ensures)
+    left-same (places-found _ _ _ (sym (ap (λ r. onOk (λ p. (p, contentsAt s p)) (outcomeOfPlaces r)) (v .places .given .1)) ∙ v .before .before .find-places .ensures)) (h .write-with-chunks .ensures)
 
 pub read-packet-spec : {M : Type 1} → statement M
-read-packet-spec = tie.close (tie.spec (search needs) (search needs) (search needs) hand-out-requires returns (search needs) (search needs) (search needs) (search needs) (search needs) (search needs) (search needs) (search needs) returns-2)
+read-packet-spec = tie.close (tie.spec (search needs) (search needs) (search needs) write-with-chunks-requires returns (search needs) (search needs) (search needs) (search needs) (search needs) (search needs) (search needs) (search needs) returns-2)

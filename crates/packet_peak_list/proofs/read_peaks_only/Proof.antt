@@ -15,7 +15,7 @@ returns-2 c =
     let g = c .before .before .before .before .before .before .before .before .before .before in
     left-same
     (peaks-only _ _ _ _ _ (sym (ap outcomeOfSkipped (g .p .given .1)) ∙ g .before .before .skip-to-peaks .ensures) (c .before .before .before .before .before .before .before .item-size .ensures .0))
-    (c .before .before .before .before .hand-out .ensures)
+    (c .before .before .before .before .write-peaks .ensures)
 
 pub read-peaks-only-spec : {M : Type 1} → statement M
 read-peaks-only-spec = tie.close (tie.spec (search needs) (search needs) (search needs) (search needs) (search needs) returns (search needs) (search needs) returns-2)

@@ -1,11 +1,11 @@
 -- `packet_profile::pass_chunks` meets its contract: a turn passes one chunk and counts its values (`WalkInvariant`). Four times the
 -- values are at most the place, so their number fits.
-use mathlib.Core.Path.{_≡_, sym, _∙_}
+use mathlib.Core.Path.{_≡_, ap, sym, _∙_}
 use Prim.Native.Nat.{_*_, _-_, _≤_}
 use native.Mathlib.Omega.{arith}
 use denote.Ref.{now}
 use Rattle.parser.proofs.Walk.{WalkInvariant, walk-none, walk-more}
-use Rattle.packet_profile.specs.Profile.{points as pointsOf, chunk}
+use Rattle.packet_profile.specs.Profile.{points as pointsOf, chunk, outcomeOfSignal}
 use Rattle.packet_profile.proofs.Chunks.{list-short, list-all}
 use Rattle.packet_profile.proofs.Signals.{There, there, missing, points-at}
 use borrow.Author.Needs.{needs}
@@ -25,11 +25,11 @@ returns : tie.Need-returns Inv-loop μ-loop
 returns c =
     let a = c .before .before .before .before .before .before .args in
     let l = c .before .before .before .before .loop in
-    list-short (a .fudged) (a .count) (now (a .run)) (a .start) (l .i) (l .at) (l .points) (omega arith) (l .inv .2) (missing (a .fudged) (now (a .run)) (l .at) (sym (c .enum-told .given .1) ∙ c .before .before .signal-at .ensures))
+    list-short (a .fudged) (a .count) (now (a .run)) (a .start) (l .i) (l .at) (l .points) (omega arith) (l .inv .2) (missing (a .fudged) (now (a .run)) (l .at) (sym (ap outcomeOfSignal (c .enum-told .given .1)) ∙ c .before .before .signal-at .ensures))
 
 -- the chunk of this turn is there
 chunk-there : (c : tie.After-struct-known Inv-loop μ-loop) → let a = c .before .before .before .before .before .before .before .before .args in There (a .fudged) (now (a .run)) (c .before .before .before .before .before .before .loop .at) (c .before .before .signal .given .0 .0)
-chunk-there c = there _ _ _ (sym (c .before .before .signal .given .1) ∙ c .before .before .before .before .signal-at .ensures)
+chunk-there c = there _ _ _ (sym (ap outcomeOfSignal (c .before .before .signal .given .1)) ∙ c .before .before .before .before .signal-at .ensures)
 
 add-points : tie.Need-add-points Inv-loop μ-loop
 add-points c = omega (arith, c .before .before .before .before .before .before .loop .inv .1, chunk-there c .starts, chunk-there c .ends)

@@ -31,7 +31,7 @@ returns-3 c =
     left-same
     (whole-packet _ _ _ _ (sym (ap outcomeOfSkipped (p .p .given .1)) ∙ p .before .before .skip-to-peaks .ensures)
     (sym (ap (λ r. onOk (λ w. (w, streamsAt s (w .labels))) (outcomeOfPlaces r)) (v .places .given .1)) ∙ v .before .before .with-labels .ensures))
-    (h .hand-out .ensures)
+    (h .write-packet .ensures)
 
 pub read-skip-profile-spec : {M : Type 1} → statement M
 read-skip-profile-spec = tie.close (tie.spec (search needs) (search needs) (search needs) (search needs) (search needs) (search needs) (search needs) returns returns-2 (search needs) (search needs) (search needs) (search needs) returns-3)

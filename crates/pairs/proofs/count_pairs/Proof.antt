@@ -1,8 +1,9 @@
 -- `pairs::count_pairs` meets its contract: a turn passes one chunk and counts its values (`Counting`).
-use mathlib.Core.Path.{sym, _∙_}
+use mathlib.Core.Path.{ap, sym, _∙_}
 use Prim.Native.Nat.{_-_}
 use native.Mathlib.Omega.{arith}
 use denote.Ref.{now}
+use Rattle.packet_profile.specs.Profile.{outcomeOfSignal}
 use Rattle.packet_profile.proofs.Signals.{There, there, missing}
 use Rattle.pairs.proofs.Counting.{Counting, counting-first, counting-more, counting-short, counting-all}
 use borrow.Author.Needs.{needs}
@@ -22,11 +23,11 @@ returns : tie.Need-returns Inv-loop μ-loop
 returns c =
     let a = c .before .before .before .before .before .before .before .args in
     let l = c .before .before .before .before .before .loop in
-    counting-short (a .profile) (now (a .run)) (l .inv) (missing (a .profile .fudged) (now (a .run)) (l .at) (sym (c .enum-told .given .1) ∙ c .before .before .signal-at .ensures))
+    counting-short (a .profile) (now (a .run)) (l .inv) (missing (a .profile .fudged) (now (a .run)) (l .at) (sym (ap outcomeOfSignal (c .enum-told .given .1)) ∙ c .before .before .signal-at .ensures))
 
 -- the chunk of this turn is there
 chunk-there : (c : tie.After-struct-known2 Inv-loop μ-loop) → let a = c .before .before .before .before .before .before .before .before .before .args in There (a .profile .fudged) (now (a .run)) (c .before .before .before .before .before .before .before .loop .at) (c .before .before .found .given .0 .0)
-chunk-there c = there _ _ _ (sym (c .before .before .found .given .1) ∙ c .before .before .before .before .signal-at .ensures)
+chunk-there c = there _ _ _ (sym (ap outcomeOfSignal (c .before .before .found .given .1)) ∙ c .before .before .before .before .signal-at .ensures)
 
 add-pairs : tie.Need-add-pairs Inv-loop μ-loop
 add-pairs c = omega (arith, c .before .before .before .before .before .before .before .loop .inv .fits, chunk-there c .starts, chunk-there c .ends)

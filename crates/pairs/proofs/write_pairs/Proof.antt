@@ -1,8 +1,9 @@
 -- `pairs::write_pairs` meets its contract: a turn writes one chunk's pairs through the tails of both slices (`Writing`).
-use mathlib.Core.Path.{refl, sym, _∙_}
+use mathlib.Core.Path.{refl, ap, sym, _∙_}
 use Prim.Native.Nat.{_-_}
 use native.Mathlib.Omega.{arith}
 use denote.Ref.{now}
+use Rattle.packet_profile.specs.Profile.{outcomeOfSignal}
 use Rattle.packet_profile.proofs.Signals.{There, there, missing}
 use Rattle.pairs.proofs.Writing.{Writing, writing-first, writing-more, writing-short, writing-all, mz-size, intensity-size, mz-within, intensity-within, with-chunk}
 use borrow.Author.Needs.{needs}
@@ -30,11 +31,11 @@ returns : tie.Need-returns Inv-loop μ-loop
 returns c =
     let a = c .before .before .before .before .before .before .before .before .before .before .args in
     let l = c .before .before .before .before .before .loop in
-    writing-short _ _ _ _ _ (c .before .before .before .before .before .before .before .before .before .before .pre .0) (c .before .before .before .before .before .before .before .before .before .before .pre .1) (l .inv) (missing (a .profile .fudged) (now (a .run)) (l .at) (sym (c .enum-told .given .1) ∙ c .before .before .signal-at .ensures))
+    writing-short _ _ _ _ _ (c .before .before .before .before .before .before .before .before .before .before .pre .0) (c .before .before .before .before .before .before .before .before .before .before .pre .1) (l .inv) (missing (a .profile .fudged) (now (a .run)) (l .at) (sym (ap outcomeOfSignal (c .enum-told .given .1)) ∙ c .before .before .signal-at .ensures))
 
 -- the chunk of this turn is there
 chunk-there : (c : tie.After-known-told Inv-loop μ-loop) → There (c .before .before .before .before .before .before .before .before .before .before .before .args .profile .fudged) (now (c .before .before .before .before .before .before .before .before .before .before .before .args .run)) (c .before .before .before .before .before .before .loop .at) (c .before .signal .given .0 .0)
-chunk-there c = there _ _ _ (sym (c .before .signal .given .1) ∙ c .before .before .before .signal-at .ensures)
+chunk-there c = there _ _ _ (sym (ap outcomeOfSignal (c .before .signal .given .1)) ∙ c .before .before .before .signal-at .ensures)
 
 mul-write-chunk : tie.Need-mul-write-chunk Inv-loop μ-loop
 mul-write-chunk c = omega (arith, mz-within _ _ _ _ _ (c .before .before .before .before .before .before .before .before .before .before .before .before .before .pre .0) (c .before .before .before .before .before .before .before .before .before .before .before .before .before .pre .1) (c .before .before .before .before .before .before .before .before .loop .inv), mz-size _ _ _ _ _ (c .before .before .before .before .before .before .before .before .before .before .before .before .before .pre .0) (c .before .before .before .before .before .before .before .before .before .before .before .before .before .pre .1) (c .before .before .before .before .before .before .before .before .loop .inv), c .before .before .before .before .before .before .before .before .before .before .before .before .before .good)

@@ -13,7 +13,7 @@ returns c = left-refused (read-refused _ _ _ _ _ _ (sym (ap outcomeOfPlace (c .b
 returns-2 : tie.Need-returns-2
 returns-2 c =
     let g = c .before .before .before .before .before .before .before .before in
-    left-same (read-found _ _ _ _ _ _ _ _ (sym (ap outcomeOfPlace (g .place .given .1)) ∙ g .before .before .find-flat-peaks .ensures)) (c .before .before .before .before .hand-out .ensures)
+    left-same (read-found _ _ _ _ _ _ _ _ (sym (ap outcomeOfPlace (g .place .given .1)) ∙ g .before .before .find-flat-peaks .ensures)) (c .before .before .before .before .write-peaks .ensures)
 
 pub read-flat-peaks-spec : {M : Type 1} → statement M
 read-flat-peaks-spec = tie.close (tie.spec (search needs) (search needs) (search needs) (search needs) returns (search needs) (search needs) returns-2)

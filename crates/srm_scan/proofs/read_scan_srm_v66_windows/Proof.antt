@@ -16,11 +16,11 @@ use Rattle.srm_scan.proofs.read_scan_srm_v66_windows.Tie as tie
 counted : (c : tie.After-known-told2) → ok (c .before .n .given .0 .0) ≡ channels 8 (now (c .before .before .before .before .before .before .before .before .args .run)) (c .before .before .before .before .saturating-add .result)
 counted c = sym (ap outcomeOfCount (c .before .n .given .1)) ∙ c .before .before .before .count-channels .ensures
 
-add-hand-out-windows : tie.Need-add-hand-out-windows
-add-hand-out-windows c = let there = channels-there 8 _ _ _ (counted c) in omega arith
+add-write-windows : tie.Need-add-write-windows
+add-write-windows c = let there = channels-there 8 _ _ _ (counted c) in omega arith
 
-hand-out-windows-requires : tie.Need-hand-out-windows-requires
-hand-out-windows-requires c κs = let there = channels-there 8 _ _ _ (counted (c .before .before)) in omega arith
+write-windows-requires : tie.Need-write-windows-requires
+write-windows-requires c κs = let there = channels-there 8 _ _ _ (counted (c .before .before)) in omega arith
 
 returns : tie.Need-returns
 returns c =
@@ -29,7 +29,7 @@ returns c =
 returns-2 : tie.Need-returns-2
 returns-2 c =
     let k = c .before .before .before .before .before .before .before in
-    left-same (windows-there _ _ _ _ (k .before .before .before .before .saturating-add .ensures) _ _ _ (counted k)) (c .before .before .before .before .hand-out-windows .ensures)
+    left-same (windows-there _ _ _ _ (k .before .before .before .before .saturating-add .ensures) _ _ _ (counted k)) (c .before .before .before .before .write-windows .ensures)
 
 pub read-scan-srm-v66-windows-spec : {M : Type 1} → statement M
-read-scan-srm-v66-windows-spec = tie.close (tie.spec (search needs) (search needs) (search needs) (search needs) add-hand-out-windows hand-out-windows-requires returns (search needs) (search needs) returns-2)
+read-scan-srm-v66-windows-spec = tie.close (tie.spec (search needs) (search needs) (search needs) (search needs) add-write-windows write-windows-requires returns (search needs) (search needs) returns-2)

@@ -3,7 +3,7 @@ use mathlib.Core.Path.{sym, ap, _∙_}
 use denote.Ref.{now}
 use Rattle.refusal.specs.Outcome.{onOk}
 use Rattle.packet_record.specs.Packet.{Contents}
-use Rattle.packet_record.specs.declared.Places.{Places}
+use Rattle.packet_record.specs.declared.PacketPlaces.{PacketPlaces}
 use Rattle.packet_places.specs.Places.{findPlaces}
 use Rattle.tray_data.specs.Data.{packetData, narrowPeaks, findData}
 use borrow.Author.Needs.{needs}
@@ -15,7 +15,7 @@ unfolding findData
 returns c =
     let a = c .before .before .before .before .before .args in
     c .find-packet .ensures
-    ∙ ap (λ at. onOk (λ (v : Places × Contents). packetData (v .0 .profile) (v .0)) (findPlaces at (now (a .run)))) (c .before .saturating-add .ensures)
+    ∙ ap (λ at. onOk (λ (v : PacketPlaces × Contents). packetData (v .0 .profile) (v .0)) (findPlaces at (now (a .run)))) (c .before .saturating-add .ensures)
     ∙ ap (λ f. findData f (a .«data») (a .offset) (a .size) (now (a .run))) (sym (c .before .before .enum-told .given .1))
 
 returns-2 : tie.Need-returns-2

@@ -1,0 +1,219 @@
+// Answers the requests on scan formats, entries of the scan index and the data of a scan: the crates `scan_format`,
+// `scan_index` and `tray_data`.
+ghost use Prim.Native.Nat.{_≤_};
+ghost use lib.ListN.{length};
+ghost use Rattle.probe_text.specs.Held.{held};
+use packet_profile::Profile;
+use probe_text::Answered;
+use probe_text::answer;
+use probe_text::lent;
+use probe_text::request;
+use probe_text::request::LENT;
+use probe_text::request::U32;
+use probe_text::request::U64;
+use scan_format::ScanDataFormat;
+use scan_index::EntryAnswer;
+use scan_index::ScanIndexEntry;
+use tray_data::DataAnswer;
+use tray_data::PeakRow;
+use tray_data::ScanData;
+
+fn format_number(format: ScanDataFormat) -> u64 {
+    match format {
+        ScanDataFormat::PacketHeader => 0,
+        ScanDataFormat::FlatV63 => 1,
+        ScanDataFormat::FlatV66 => 2,
+    }
+}
+
+fn format_of(number: u64) -> ScanDataFormat {
+    match number {
+        0 => ScanDataFormat::PacketHeader,
+        1 => ScanDataFormat::FlatV63,
+        _ => ScanDataFormat::FlatV66,
+    }
+}
+
+fn format(line: &[u8], at: usize, out: &mut [u8], n: usize) -> usize
+    ensures { λ r. ⌜ r ≤ length (now (out .exit)) ⌝ }
+{
+    let version = request::number(line, at, U32);
+    let flat = request::number(line, version.end, 1);
+    if flat.end != line.len() {
+        return answer::bad(out, n);
+    }
+    let format = ScanDataFormat::detect(version.value as u32, flat.value == 1);
+    let n = answer::ok_number(out, n, format_number(format));
+    answer::flag(out, n, format.is_flat())
+}
+
+fn put_display_name(format: ScanDataFormat, lent: &mut [u8], out: &mut [u8], n: usize) -> usize
+    ensures { λ r. ⌜ r ≤ length (now (out .exit)) ⌝ }
+{
+    let written = format.display_name(lent);
+    answer::name(out, n, written, lent)
+}
+
+fn display_name(line: &[u8], at: usize, out: &mut [u8], n: usize) -> usize
+    ensures { λ r. ⌜ r ≤ length (now (out .exit)) ⌝ }
+{
+    let format = request::number(line, at, 2);
+    let length = request::number(line, format.end, LENT);
+    if length.end != line.len() {
+        return answer::bad(out, n);
+    }
+    let mut text = lent::u8s();
+    let count = length.value as usize;
+    put_display_name(format_of(format.value), &mut text[0..count], out, n)
+}
+
+fn entry_size(line: &[u8], at: usize, out: &mut [u8], n: usize) -> usize
+    ensures { λ r. ⌜ r ≤ length (now (out .exit)) ⌝ }
+{
+    let version = request::number(line, at, U32);
+    if version.end != line.len() {
+        return answer::bad(out, n);
+    }
+    let version = version.value as u32;
+    answer::ok_number(out, n, ScanIndexEntry::min_size_for_version(version))
+}
+
+fn put_floats(out: &mut [u8], n: usize, e: ScanIndexEntry) -> usize
+    ensures { λ r. ⌜ r ≤ length (now (out .exit)) ⌝ }
+{
+    let n = answer::bits64(out, n, e.start_time);
+    let n = answer::bits64(out, n, e.total_current);
+    let n = answer::bits64(out, n, e.base_intensity);
+    let n = answer::bits64(out, n, e.base_mz);
+    let n = answer::bits64(out, n, e.low_mz);
+    answer::bits64(out, n, e.high_mz)
+}
+
+pub fn put_entry(out: &mut [u8], n: usize, e: ScanIndexEntry) -> usize
+    ensures { λ r. ⌜ r ≤ length (now (out .exit)) ⌝ }
+{
+    let n = answer::ok_number(out, n, e.index as u64);
+    let n = answer::number(out, n, e.scan_event as u64);
+    let n = answer::number(out, n, e.scan_segment as u64);
+    let n = answer::number(out, n, e.data_size as u64);
+    let n = put_floats(out, n, e);
+    answer::number(out, n, e.offset)
+}
+
+fn entry(line: &[u8], at: usize, data: &mut [u8], out: &mut [u8], n: usize) -> usize
+    ensures { λ r. ⌜ r ≤ length (now (out .exit)) ⌝ }
+{
+    let version = request::number(line, at, U32);
+    let place = request::number(line, version.end, U64);
+    let count = request::bytes(line, place.end, data);
+    if count.end != line.len() {
+        return answer::bad(out, n);
+    }
+    let run = request::front(data, count.value);
+    match ScanIndexEntry::read(run, place.value, version.value as u32) {
+        EntryAnswer::Entry(e) => put_entry(out, n, e),
+        EntryAnswer::Refused(refusal) => answer::refused(out, n, refusal),
+    }
+}
+
+fn put_profile(out: &mut [u8], n: usize, p: Profile) -> usize
+    ensures { λ r. ⌜ r ≤ length (now (out .exit)) ⌝ }
+{
+    let n = answer::number(out, n, p.chunks_at);
+    let n = answer::number(out, n, p.peak_count as u64);
+    answer::number(out, n, p.points)
+}
+
+fn put_row(out: &mut [u8], n: usize, row: PeakRow) -> usize
+    ensures { λ r. ⌜ r ≤ length (now (out .exit)) ⌝ }
+{
+    let n = answer::number(out, n, row.at);
+    let n = answer::number(out, n, row.stride);
+    let n = answer::number(out, n, row.count);
+    answer::flag(out, n, row.wide)
+}
+
+fn put_data(out: &mut [u8], n: usize, found: ScanData) -> usize
+    ensures { λ r. ⌜ r ≤ length (now (out .exit)) ⌝ }
+{
+    match found {
+        ScanData::Profile(p) => {
+            let n = answer::ok_number(out, n, 0);
+            put_profile(out, n, p)
+        }
+        ScanData::Peaks(row) => {
+            let n = answer::ok_number(out, n, 1);
+            put_row(out, n, row)
+        }
+    }
+}
+
+fn find_data(line: &[u8], at: usize, data: &mut [u8], out: &mut [u8], n: usize) -> usize
+    ensures { λ r. ⌜ r ≤ length (now (out .exit)) ⌝ }
+{
+    let format = request::number(line, at, 2);
+    let place = request::number(line, format.end, U64);
+    let offset = request::number(line, place.end, U64);
+    let size = request::number(line, offset.end, U32);
+    let count = request::bytes(line, size.end, data);
+    if count.end != line.len() {
+        return answer::bad(out, n);
+    }
+    let run = request::front(data, count.value);
+    let size = size.value as u32;
+    let format = format_of(format.value);
+    match tray_data::find_data(run, format, place.value, offset.value, size) {
+        DataAnswer::Refused(refusal) => answer::refused(out, n, refusal),
+        DataAnswer::Data(found) => put_data(out, n, found),
+    }
+}
+
+// The request words that are answered here.
+enum Keyword {
+    Entry,
+    EntrySize,
+    Format,
+    DisplayName,
+    FindData,
+    Unknown,
+}
+
+fn keyword_of(word: &[u8]) -> Keyword {
+    if check::same(word, b"entry") {
+        return Keyword::Entry;
+    }
+    if check::same(word, b"entry_size") {
+        return Keyword::EntrySize;
+    }
+    if check::same(word, b"format") {
+        return Keyword::Format;
+    }
+    if check::same(word, b"display_name") {
+        return Keyword::DisplayName;
+    }
+    if check::same(word, b"find_data") {
+        return Keyword::FindData;
+    }
+    Keyword::Unknown
+}
+
+// Answers the request of a line whose first word is `word` and ends at `at`.
+pub fn answer_request(
+    word: &[u8],
+    line: &[u8],
+    at: usize,
+    data: &mut [u8],
+    out: &mut [u8],
+    n: usize,
+) -> Answered
+    ensures { λ r. ⌜ held r ≤ length (now (out .exit)) ⌝ }
+{
+    match keyword_of(word) {
+        Keyword::Entry => Answered::Text(entry(line, at, data, out, n)),
+        Keyword::EntrySize => Answered::Text(entry_size(line, at, out, n)),
+        Keyword::Format => Answered::Text(format(line, at, out, n)),
+        Keyword::DisplayName => Answered::Text(display_name(line, at, out, n)),
+        Keyword::FindData => Answered::Text(find_data(line, at, data, out, n)),
+        Keyword::Unknown => Answered::Unknown,
+    }
+}
