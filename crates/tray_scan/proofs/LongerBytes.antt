@@ -32,8 +32,8 @@ use Rattle.tray_header.specs.declared.TrayHeader.{TrayHeader}
 use Rattle.tray_header.proofs.Found.{Words}
 use Rattle.tray_data.specs.Data.{Finding, ofFinding, dataStart, pairs}
 use Rattle.tray_data.proofs.LongerBytes.{data-bounded, finding-not-truncated}
-use Rattle.tray_scan.specs.Scan.{formatIn, entryIn, eventIn, ScanParts, withData, scanParts, WrittenScan, scanIfFits, scanAt, endIn, placeOrEnd, outcomeOf}
-use Rattle.tray_scan.specs.Internal.{entryOf}
+use Rattle.tray_scan.specs.Scan.{formatIn, entryIn, eventIn, ScanParts, scanParts, WrittenScan, scanIfFits, scanAt, endIn, placeOrEnd, outcomeOf}
+use Rattle.tray_scan.specs.Internal.{entryOf, withData}
 use Rattle.tray_scan.specs.declared.ScanAnswer.{ScanAnswer}
 use Rattle.tray_scan.specs.declared.ScanAndNext.{ScanAndNext}
 use Rattle.tray_scan.proofs.OneAnswer.{scan-answer-one}
@@ -95,16 +95,16 @@ module _ (h : TrayHeader) (k : ℕ) where
     found entry e next = finding-not-truncated _ (λ _. tt)
 
     pub scan-parts-in : (P : ℕ → Type 0) → P 2 → P 3 → P 4 → PartsIn P (scanParts h k place events)
-    unfolding scanParts withData
+    unfolding scanParts
     scan-parts-in P index event given = (index, λ entry _. (event, λ e next. (given, λ f _. found entry e next f)))
 
     pub scan-avoids : (p : ℕ) → p < 2 → Avoids p (scanParts h k place events)
-    unfolding scanParts withData
+    unfolding scanParts
     scan-avoids p low = ((λ e. omega (arith, e)), λ entry _. ((λ e. omega (arith, e)), λ e next. ((λ e. omega (arith, e)), λ f _. found entry e next f)))
 
     module _ (w : Words h) (small : k < 2 ^ 32) (s : List ℕ) (isBytes : Bytes s) where
       pub scan-covers : (q : ℕ) → RunPart q → (q ≡ 3 → (place < 2 ^ 62) × Bounded (2 ^ 62) (2 ^ 61) events) → (q ≡ 4 → DataNear h k s) → Covers (2 ^ 61) q (scanParts h k place events) s
-      unfolding scanParts withData readEntry outcome
+      unfolding scanParts readEntry outcome
       scan-covers q (inl i) near low =
           rw i
           (inl (refl, omega (arith, w .index), entry-bounded small, λ entry _. ((λ e. omega (arith, e)), λ e next. ((λ e. omega (arith, e)), λ f _. found entry e next f))))
@@ -174,7 +174,7 @@ module _ (h : TrayHeader) (k at : ℕ) where
 
     -- without its event there is no scan
     no-scan : (s : List ℕ) (p : ℕ) → endIn h at s ≡ ranOut p → (q : ℕ) × (scanAt capacities h k at s ≡ ranOut q)
-    unfolding scanAt scanParts eventEnd outcome
+    unfolding scanAt scanParts withData eventEnd outcome
     no-scan s p i = go (parse (entryIn h k) s (h .index)) (parse (eventIn h) s at) i
       where
         go : (o : Parsed ScanIndexEntry) (v : Parsed Event) → onward 3 v (λ _ next. ok next) ≡ ranOut p

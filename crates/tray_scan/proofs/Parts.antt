@@ -25,8 +25,8 @@ use Rattle.tray_header.specs.declared.TrayHeader.{TrayHeader}
 use Rattle.tray_data.specs.Data.{findData, contentAt}
 use Rattle.tray_data.specs.declared.ScanData.{ScanData}
 use Rattle.tray_data.proofs.Answers.{data-found, data-refused}
-use Rattle.tray_scan.specs.Scan.{formatIn, entryIn, eventIn, ScanParts, withData, scanParts, scanIfFits, scanAt, endIn, placeOrEnd}
-use Rattle.tray_scan.specs.Internal.{entryOf, inTurn, eventFound, nextPlace}
+use Rattle.tray_scan.specs.Scan.{formatIn, entryIn, eventIn, ScanParts, scanParts, scanIfFits, scanAt, endIn, placeOrEnd}
+use Rattle.tray_scan.specs.Internal.{entryOf, withData, inTurn, eventFound, nextPlace}
 
 module _ (h : TrayHeader) (k : ℕ) (s : List ℕ) where
   -- an entry that is there has those before it in front of it
@@ -43,7 +43,7 @@ module _ (h : TrayHeader) (k : ℕ) (s : List ℕ) where
       (leb-cases n (left s (h .index)))
 
   pub in-turn : (place : ℕ) (events : Parser Event) → inTurn h k (partAt 3 place events s) s ≡ outcome (scanParts h k place events) s
-  unfolding inTurn readEntry scanParts outcome partAt
+  unfolding inTurn readEntry scanParts withData outcome partAt
   in-turn place events = rw entry-alone (go (parse (entry (h .version)) s (h .index + k * entrySize (h .version))))
     where
       of-event : (entry : ScanIndexEntry) (o : Parsed Event)

@@ -5,7 +5,7 @@ use mathlib.Core.List.{List}
 use lib.ListN.{length}
 use Rattle.refusal.specs.Outcome.{Outcome, ok, onOk, andThen}
 use Rattle.refusal.specs.Number.{outcomeOfRefusal}
-use Rattle.parser.specs.Call.{outcome}
+use Rattle.parser.specs.Call.{Call, answer, part, outcome}
 use Rattle.scan_index.specs.Entry.{entrySize, readEntry}
 use Rattle.scan_index.specs.declared.ScanIndexEntry.{ScanIndexEntry}
 use Rattle.event_record.specs.Event.{Event}
@@ -14,9 +14,9 @@ use Rattle.event_record.specs.declared.Places.{Places}
 use Rattle.event_record.specs.declared.PlacesAnswer.{PlacesAnswer}
 use Rattle.event_record.specs.declared.PlacesAnswer.the-variants as place
 use Rattle.tray_header.specs.declared.TrayHeader.{TrayHeader}
-use Rattle.tray_data.specs.Data.{pairs, contentAt, countOf}
+use Rattle.tray_data.specs.Data.{ofFinding, dataStart, scanData, pairs, contentAt, countOf}
 use Rattle.tray_data.specs.declared.ScanData.{ScanData}
-use Rattle.tray_scan.specs.Scan.{ScanParts, withData}
+use Rattle.tray_scan.specs.Scan.{formatIn, ScanParts}
 use Rattle.tray_scan.specs.declared.ScanPlaces.{ScanPlaces}
 use Rattle.tray_scan.specs.declared.ScanPlacesAnswer.{ScanPlacesAnswer}
 use Rattle.tray_scan.specs.declared.ScanPlacesAnswer.the-variants as scan
@@ -24,6 +24,13 @@ use Rattle.tray_scan.specs.declared.ScanPlacesAnswer.the-variants as sca
 -- entry k of the index, as it is read
 abbrev pub entryOf : TrayHeader → ℕ → List ℕ → Outcome ScanIndexEntry
 entryOf h k run = readEntry (h .version) (h .index + k * entrySize (h .version)) run
+
+-- what follows the event of a scan
+unfoldable pub withData : TrayHeader → ScanIndexEntry → Event → ℕ → Call ScanParts
+withData h entry e next =
+    let at = dataStart (h .«data») (entry .offset) in
+    part 4 at (scanData (formatIn h) at (entry .offset) (entry .«data_size»)) λ found _.
+    answer (ofFinding (λ content. ok (record { entry = entry; event = e; next = next; content = content })) found)
 
 -- entry k, then the event, which was sought before, and then the data
 unfoldable pub inTurn : TrayHeader → ℕ → Outcome (Event × ℕ) → List ℕ → Outcome ScanParts

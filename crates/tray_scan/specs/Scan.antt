@@ -38,25 +38,20 @@ pub record ScanParts : Type 0 where
   pub next : ℕ
   pub content : Content
 
--- the data of an entry, part 4
-unfoldable pub withData : TrayHeader → ScanIndexEntry → Event → ℕ → Call ScanParts
-withData h entry e next =
-    let at = dataStart (h .«data») (entry .offset) in
-    part 4 at (scanData (formatIn h) at (entry .offset) (entry .«data_size»)) λ found _.
-    answer (ofFinding (λ content. ok (record { entry = entry; event = e; next = next; content = content })) found)
-
--- scan k: the index is part 2, and the events, which this parser reads at a place, are part 3
+-- scan k: the index is part 2; the events, which this parser reads at a place, are part 3; and the data of the entry are part 4
 unfoldable pub scanParts : TrayHeader → ℕ → ℕ → Parser Event → Call ScanParts
 scanParts h k place events =
     part 2 (h .index) (entryIn h k) λ entry _.
     part 3 place events λ e next.
-    withData h entry e next
+    let at = dataStart (h .«data») (entry .offset) in
+    part 4 at (scanData (formatIn h) at (entry .offset) (entry .«data_size»)) λ found _.
+    answer (ofFinding (λ content. ok (record { entry = entry; event = e; next = next; content = content })) found)
 
 -- the answer's record, and what is written: the event's lists, and the pairs
 abbrev pub WrittenScan : Type 0
 WrittenScan = Scan × List (List ℕ) × List Pair
 
--- the same of a scan, by its event's coefficients, or refusal 8, where slices of these capacities are lent
+-- those of a scan, the pairs by its event's coefficients, or refusal 8, where slices of these capacities are lent
 unfoldable pub scanIfFits : List ℕ → ScanParts → Outcome WrittenScan
 scanIfFits capacities p =
     let ps = pairs (p .event .coefficients) (p .content) in
