@@ -1,5 +1,5 @@
--- What a function promises that appends a text; and that every number has a text in decimal. Of the second public promises cite
--- the type alone, no public promise cites the rest.
+-- What a function promises that appends a text, which no public promise cites; and a text in decimal of every number, with the proof
+-- that it is one (`inDecimal`): who reads `decimal` needs the type alone, since `decimal-unique` (proofs/Digits) says that there is no other.
 use mathlib.Core.Path.{_≡_, refl}
 use mathlib.Core.Bool.{Bool, true, false}
 use Prim.Native.Nat.{ℕ, zero, suc, _+_, _/_, _%_, _≤_, _<_}

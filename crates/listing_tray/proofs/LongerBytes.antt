@@ -31,7 +31,7 @@ use Rattle.tray_header.proofs.LongerBytes.{tray-header-prefix, tray-header-comp
 use Rattle.tray_scan.specs.Scan.{WrittenScan, scanAt, endIn, placeOrEnd, outcomeOf}
 use Rattle.tray_scan.specs.declared.ScanAnswer.{ScanAnswer}
 use Rattle.tray_scan.specs.declared.ScanAnswer.the-variants as answer
-use Rattle.tray_scan.proofs.LongerBytes.{RunPart, AtNear, scan-at-prefix, scan-at-completes, next-stays}
+use Rattle.tray_scan.proofs.LongerBytes.{AtNear, scan-at-prefix, scan-at-names, scan-at-completes, next-stays}
 use Rattle.listing_tray.specs.Listing.{capacities, scanText, headerText}
 use Rattle.listing_tray.specs.declared.ListedScan.{ListedScan}
 
@@ -165,10 +165,12 @@ module _ (h : TrayHeader) (k at : ℕ) where
       let next : q .next ≡ r .next = m .1 ∙ ap placeOrEnd (next-stays h k at capacities s t (λ part e. never part (ap (scanText k) e))) ∙ sym (l .1) in
       (ap (λ x. listedScan x (q .next)) (both .0) ∙ ap (listedScan (r .written)) next, both .1)
 
-  -- the parts of a run; the header is read before
-  pub list-scan-completes : Words h → k < 2 ^ 32 → (part : Part) → RunPart (partNumber part) → (s : List ℕ) (x : ScanAnswer) → Bytes s → length s < 2 ^ 62
+  -- the header's part is named by no text: it is read before
+  pub list-scan-completes : Words h → k < 2 ^ 32 → (part : Part) → (s : List ℕ) (x : ScanAnswer) → Bytes s → length s < 2 ^ 62
       → AtNear h k at (partNumber part) s → Reads s x → scanTextOn s ≡ ranOutLine k part
       → (t : List ℕ) × Held (s ++ t) × ((y : ScanAnswer) → Reads (s ++ t) y → scanTextOn (s ++ t) ≡ ranOutLine k part → ⊥)
-  list-scan-completes words small part p s x isBytes few near e i =
+  list-scan-completes words small part s x isBytes few near e i =
+      let o = text-one k (scanText k) (λ _ _. refl) scan-value (scanAt capacities h k at s) part (scan-outcome x (scanAt capacities h k at s) e) i in
+      let p = scan-at-names h k at capacities s (partNumber part) o in
       let w = text-completes k (scanText k) (λ _ _. refl) scan-value (scanAt capacities h k at) part s (scan-at-completes h k at capacities words small (partNumber part) p s isBytes few near) (scan-outcome x (scanAt capacities h k at s) e) i in
       (w .0, w .1, λ y f. w .2 (scan-outcome y (scanAt capacities h k at (s ++ w .0)) f))
