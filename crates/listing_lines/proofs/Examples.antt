@@ -10,7 +10,7 @@ use Rattle.text.specs.Text.{ascii}
 use Rattle.float_ten_thousandths.specs.TenThousandths.{scaled, tenThousandths}
 use Rattle.listing_lines.specs.Decimal.{digit}
 use Rattle.listing_lines.specs.Internal.{decimalBy}
-use Rattle.listing_lines.specs.Lines.{decimal, hexadecimal, bits, trayLine, refusalLine, scanLines}
+use Rattle.listing_lines.specs.Lines.{decimal, hexadecimal, bitsText, trayLine, refusalLine, scanLines}
 use Rattle.float_bits.specs.Numbers.{largestMass}
 
 pub numbers : (decimal 0 ≡ ascii "0") × (decimal 9 ≡ ascii "9") × (decimal 10 ≡ ascii "10") × (decimal 18446744073709551615 ≡ ascii "18446744073709551615")
@@ -38,7 +38,7 @@ unfolding digit decimalBy decimal hexadecimal toBits le ofInt largestMass scaled
 unlisted = refl
 
 -- a NaN's pattern with another sign and other digits is the same NaN
-pub one-nan : bits (ofBits binary64 0xfff0_0000_0000_0001) ≡ ascii "7ff8000000000000"
+pub one-nan : bitsText (ofBits binary64 0xfff0_0000_0000_0001) ≡ ascii "7ff8000000000000"
 unfolding digit hexadecimal ofBits toBits
 one-nan = refl
 

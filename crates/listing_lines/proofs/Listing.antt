@@ -8,7 +8,7 @@ use lib.Ieee.{Float, binary64, toBits}
 use lib.ListN.{length, getD, take, drop, replicate, length-append}
 use lib.Seq.{take-nil, drop-nil, drop-cons}
 use Rattle.text.specs.Text.{ascii}
-use Rattle.listing_lines.specs.Lines.{decimal, line, mass, bits, pairLines, scanLines}
+use Rattle.listing_lines.specs.Lines.{decimal, line, massText, bitsText, pairLines, scanLines}
 use Rattle.listing_lines.specs.Internal.{Appends}
 use Rattle.listing_lines.proofs.Digits.{hexadecimal-length}
 use Rattle.listing_lines.proofs.Places.{append-then, append-front}
@@ -16,7 +16,7 @@ use Rattle.listing_lines.proofs.Room.{numbered}
 
 -- the line of the i-th pair. The lists have one, so d does not matter
 abbrev pub lineAt : List Float → List Float → ℕ → Float → List ℕ
-lineAt mz intensity i d = line (mass (getD mz i d) ∷ bits (getD intensity i d) ∷ [])
+lineAt mz intensity i d = line (massText (getD mz i d) ∷ bitsText (getD intensity i d) ∷ [])
 
 -- the lines of the first i pairs
 abbrev pub linesTo : List Float → List Float → ℕ → List ℕ
@@ -26,17 +26,17 @@ lines-more : (mz intensity : List Float) (i : ℕ) (d : Float) → i < length mz
     → linesTo mz intensity (suc i) ≡ linesTo mz intensity i ++ lineAt mz intensity i d
 lines-more [] intensity i d h k = absurd (omega arith)
 lines-more (m ∷ mz) [] i d h k = absurd (omega arith)
-lines-more (m ∷ mz) (x ∷ intensity) zero d h k = append-nil (line (mass m ∷ bits x ∷ []))
+lines-more (m ∷ mz) (x ∷ intensity) zero d h k = append-nil (line (massText m ∷ bitsText x ∷ []))
 lines-more (m ∷ mz) (x ∷ intensity) (suc i) d h k =
-    ap (λ l. line (mass m ∷ bits x ∷ []) ++ l) (lines-more mz intensity i d (omega arith) (omega arith))
-    ∙ sym (append-assoc (line (mass m ∷ bits x ∷ [])) (linesTo mz intensity i) (lineAt mz intensity i d))
+    ap (λ l. line (massText m ∷ bitsText x ∷ []) ++ l) (lines-more mz intensity i d (omega arith) (omega arith))
+    ∙ sym (append-assoc (line (massText m ∷ bitsText x ∷ [])) (linesTo mz intensity i) (lineAt mz intensity i d))
 
 lines-all : (mz intensity : List Float) (i : ℕ) → min (length mz) (length intensity) ≤ i → linesTo mz intensity i ≡ pairLines mz intensity
 lines-all [] intensity i h = rw (take-nil i)
 lines-all (m ∷ mz) [] zero h = refl
 lines-all (m ∷ mz) [] (suc i) h = refl
 lines-all (m ∷ mz) (x ∷ intensity) zero h = absurd (omega arith)
-lines-all (m ∷ mz) (x ∷ intensity) (suc i) h = ap (λ l. line (mass m ∷ bits x ∷ []) ++ l) (lines-all mz intensity i (omega arith))
+lines-all (m ∷ mz) (x ∷ intensity) (suc i) h = ap (λ l. line (massText m ∷ bitsText x ∷ []) ++ l) (lines-all mz intensity i (omega arith))
 
 -- a turn of the loop, which started at a place of the slice xs, and its end
 pub turn : (mz intensity : List Float) (i : ℕ) (d : Float) {start : ℕ} {xs : List ℕ} {at : ℕ} {X : List ℕ} {next : ℕ} {Y : List ℕ}
@@ -48,7 +48,7 @@ turn mz intensity i d p h k q = rw (add-one i, lines-more mz intensity i d h k) 
 abbrev pub linesFrom : List Float → List Float → ℕ → List ℕ
 linesFrom mz intensity i = pairLines (drop i mz) (drop i intensity)
 
-pub size-turn : (mz intensity : List Float) (i : ℕ) (d : Float) {n : ℕ} → n ≡ length (mass (getD mz i d)) → i < length mz → i < length intensity
+pub size-turn : (mz intensity : List Float) (i : ℕ) (d : Float) {n : ℕ} → n ≡ length (massText (getD mz i d)) → i < length mz → i < length intensity
     → length (linesFrom mz intensity i) ≡ n + 18 + length (linesFrom mz intensity (i + 1))
 size-turn mz intensity i d e h k =
     let sixteen = hexadecimal-length 16 (toBits binary64 (getD intensity i d)) in

@@ -20,7 +20,7 @@ use Rattle.float_bits.specs.Exact.{num, den}
 use Rattle.float_bits.specs.Rounding.{nearestHalfUp}
 use Rattle.float_bits.proofs.Exact.{num-is, den-is}
 use Rattle.float_bits.proofs.Rounding.{half-up-is}
-use Rattle.listing_lines.specs.Lines.{decimal, line, listed, mass, bits, partIn, trayLine, refusalLine, pairLines, scanLines}
+use Rattle.listing_lines.specs.Lines.{decimal, line, listed, massText, bitsText, partIn, trayLine, refusalLine, pairLines, scanLines}
 use Rattle.listing_lines.proofs.Digits.{decimal-length, hexadecimal-length}
 use Rattle.float_bits.specs.Numbers.{zeroF, largestMass}
 
@@ -52,7 +52,7 @@ nearest-most n d D h =
     let D2 : 0 < d * 2 = omega arith in
     rw (half-up-is (n * 10000) d D) (div-lt-iff-lt-mul D2 .1 (omega arith))
 
-pub mass-most : (mz : Float) → length (mass mz) ≤ 9
+pub mass-most : (mz : Float) → length (massText mz) ≤ 9
 unfolding tenThousandths scaled
 mass-most mz = go (le zeroF mz) (le mz largestMass) (fraction-most mz)
   where
@@ -65,8 +65,8 @@ mass-most mz = go (le zeroF mz) (le mz largestMass) (fraction-most mz)
 two-fields : (a b : List ℕ) (m n : ℕ) → length a ≤ m → length b ≤ n → length (line (a ∷ b ∷ [])) ≤ m + n + 2
 two-fields a b m n h k = simp length-append (omega arith)
 
-pair-most : (mz intensity : Float) → length (line (mass mz ∷ bits intensity ∷ [])) ≤ 27
-pair-most mz intensity = two-fields (mass mz) (bits intensity) 9 16 (mass-most mz) (omega (arith, hexadecimal-length 16 (toBits binary64 intensity)))
+pair-most : (mz intensity : Float) → length (line (massText mz ∷ bitsText intensity ∷ [])) ≤ 27
+pair-most mz intensity = two-fields (massText mz) (bitsText intensity) 9 16 (mass-most mz) (omega (arith, hexadecimal-length 16 (toBits binary64 intensity)))
 
 pairs-most : (mz intensity : List Float) → length (pairLines mz intensity) ≤ 27 * length mz
 pairs-most [] intensity = omega arith

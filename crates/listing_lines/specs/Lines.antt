@@ -33,12 +33,12 @@ abbrev pub listed : Outcome ℕ → List ℕ
 listed (ok n) = decimal n
 listed (refused number carries) = ascii "-"
 
-abbrev pub mass : Float → List ℕ
-mass mz = listed (tenThousandths mz)
+abbrev pub massText : Float → List ℕ
+massText mz = listed (tenThousandths mz)
 
 -- an intensity's bits in 16 hexadecimal digits. `Float` has one NaN, and its bits are 7ff8000000000000
-abbrev pub bits : Float → List ℕ
-bits intensity = hexadecimal 16 (toBits binary64 intensity)
+abbrev pub bitsText : Float → List ℕ
+bitsText intensity = hexadecimal 16 (toBits binary64 intensity)
 
 -- `T version count`
 unfoldable pub trayLine : ℕ → ℕ → List ℕ
@@ -59,7 +59,7 @@ refusalLine number refusal = refusedLine number (numberOf refusal) (carried refu
 abbrev pub pairLines : List Float → List Float → List ℕ
 pairLines [] intensity = []
 pairLines (m ∷ mz) [] = []
-pairLines (m ∷ mz) (i ∷ intensity) = line (mass m ∷ bits i ∷ []) ++ pairLines mz intensity
+pairLines (m ∷ mz) (i ∷ intensity) = line (massText m ∷ bitsText i ∷ []) ++ pairLines mz intensity
 
 -- `S number pairs coefficients`, and the pairs' lines
 unfoldable pub scanLines : ℕ → ℕ → List Float → List Float → List ℕ

@@ -9,7 +9,7 @@ ghost use Rattle.lists.specs.Left.{LeftList};
 ghost use Rattle.refusal.specs.Number.{number as numberOf, carried};
 ghost use Rattle.text.specs.Text.{ascii};
 ghost use Rattle.listing_lines.specs.Decimal.{digit};
-ghost use Rattle.listing_lines.specs.Lines.{decimal, hexadecimal, line, mass, bits, partIn, trayLine, refusalLine, scanLines};
+ghost use Rattle.listing_lines.specs.Lines.{decimal, hexadecimal, line, massText, bitsText, partIn, trayLine, refusalLine, scanLines};
 ghost use Rattle.listing_lines.specs.Internal.{Appends};
 use float_bits::bits_of_f64;
 use float_ten_thousandths::ten_thousandths;
@@ -126,7 +126,7 @@ pub fn write_refusal_line(number: u32, refusal: Refusal, out: &mut [u8]) -> Coun
 
 // An m/z in ten-thousandths, or `-` where it has none.
 fn append_mass(mz: f64, at: usize, out: &mut [u8]) -> usize
-    ensures { λ r. ⌜ Appends (mass mz) at (now (out .entry)) r (now (out .exit)) ⌝ }
+    ensures { λ r. ⌜ Appends (massText mz) at (now (out .entry)) r (now (out .exit)) ⌝ }
 {
     match ten_thousandths(mz) {
         CountAnswer::Count(n) => append_decimal(n, at, out),
@@ -136,7 +136,7 @@ fn append_mass(mz: f64, at: usize, out: &mut [u8]) -> usize
 
 // The line of a pair.
 fn append_pair(mz: f64, intensity: f64, at: usize, out: &mut [u8]) -> usize
-    ensures { λ r. ⌜ Appends (line (mass mz ∷ bits intensity ∷ [])) at (now (out .entry)) r (now (out .exit)) ⌝ }
+    ensures { λ r. ⌜ Appends (line (massText mz ∷ bitsText intensity ∷ [])) at (now (out .entry)) r (now (out .exit)) ⌝ }
 {
     let space = append_mass(mz, at, out);
     let next = append(b' ', space, out);
@@ -173,7 +173,7 @@ fn append_scan(
 
 // How long a mass is: at most 9 bytes.
 fn mass_size(mz: f64) -> usize
-    ensures { λ r. ⌜ r ≡ length (mass mz) ⌝ }
+    ensures { λ r. ⌜ r ≡ length (massText mz) ⌝ }
 {
     let mut text = [0u8; 9];
     append_mass(mz, 0, &mut text)

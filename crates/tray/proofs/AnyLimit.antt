@@ -26,7 +26,7 @@ use Rattle.tray_header.specs.Header.{readHeader}
 use Rattle.tray_header.specs.declared.TrayHeader.{TrayHeader}
 use Rattle.tray_header.proofs.Found.{Words, whole, words}
 use Rattle.tray_header.proofs.LongerBytes.{header-prefix, header-names, header-completes}
-use Rattle.tray_scan.specs.Scan.{eventIn, ScanParts, scanParts, WrittenScan, scanIfFits, outcomeOf}
+use Rattle.tray_scan.specs.Scan.{trayEvent, ScanParts, scanParts, WrittenScan, scanIfFits, outcomeOf}
 use Rattle.tray_scan.proofs.LongerBytes.{Lent, written-longer, PartsIn, parts-names, RunPart, DataNear, event-bounded, events-bounded, kth-bounded, scan-parts-in, scan-avoids, scan-covers, scan-not-truncated}
 use Rattle.tray.specs.Scan.{overRun, headerWith, readScan, readScanFrom, eventOf, nextEvent}
 use Rattle.tray.proofs.Headers.{numbered, with-size, with-few}
@@ -149,7 +149,7 @@ module _ (limit number : ℕ) where
       -- ---- scan k
       module _ (k : ℕ) where
         abbrev kth : TrayHeader → Parser Event
-        kth h = repeat k (eventIn h) >> eventIn h
+        kth h = repeat k (trayEvent h) >> trayEvent h
 
         module _ (capacities : List ℕ) where
           pub scan-of-prefix : PrefixProperty (readScan limit number capacities k)
@@ -169,15 +169,15 @@ module _ (limit number : ℕ) where
         module _ (at : ℕ) (capacities : List ℕ) where
           pub scan-from-of-prefix : PrefixProperty (readScanFrom limit number capacities k at)
           unfolding readScanFrom scan
-          scan-from-of-prefix = by-prefix capacities k (λ _. at) eventIn
+          scan-from-of-prefix = by-prefix capacities k (λ _. at) trayEvent
 
           pub scan-from-of-names : Names ScanPart (readScanFrom limit number capacities k at)
           unfolding readScanFrom scan
-          scan-from-of-names = by-names capacities k (λ _. at) eventIn
+          scan-from-of-names = by-names capacities k (λ _. at) trayEvent
 
           pub scan-from-of-completes : (q : ℕ) → ScanPart q → (s : List ℕ) → Bytes s → length s < 2 ^ 62 → FromNear k at q s → CompletesOn q (readScanFrom limit number capacities k at) s
           unfolding readScanFrom scan
-          scan-from-of-completes q p s isBytes few near = by-part capacities k (λ _. at) eventIn s isBytes few q (λ e h w _. (near .0 e, event-bounded h k w)) (near .1) p
+          scan-from-of-completes q p s isBytes few near = by-part capacities k (λ _. at) trayEvent s isBytes few q (λ e h w _. (near .0 e, event-bounded h k w)) (near .1) p
 
         -- the sentences, on the answer and all six slices
         module _ (xs : List (List ℕ)) (m i : List Float) where
@@ -195,7 +195,7 @@ module _ (limit number : ℕ) where
       -- ---- where event k stands
       module _ (k : ℕ) where
         place : TrayHeader → Call ℕ
-        place h = single 3 (h .events) (repeat k (eventIn h)) (λ _ next. ok next)
+        place h = single 3 (h .events) (repeat k (trayEvent h)) (λ _ next. ok next)
 
         pub place-of-prefix : PrefixProperty (eventOf limit number k)
         unfolding eventOf eventPlace place
@@ -224,7 +224,7 @@ module _ (limit number : ℕ) where
       -- ---- where the event at a place ends
       module _ (at : ℕ) where
         end : TrayHeader → Call ℕ
-        end h = single 3 at (eventIn h) (λ _ next. ok next)
+        end h = single 3 at (trayEvent h) (λ _ next. ok next)
 
         pub end-of-prefix : PrefixProperty (nextEvent limit number at)
         unfolding nextEvent eventEnd end

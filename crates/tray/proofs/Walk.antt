@@ -15,7 +15,7 @@ use Rattle.events.specs.Event.{eventEnd, eventPlace}
 use Rattle.events.proofs.Steps.{place-none, place-more, none-after}
 use Rattle.tray_header.specs.Header.{readHeader}
 use Rattle.tray_header.specs.declared.TrayHeader.{TrayHeader}
-use Rattle.tray_scan.specs.Scan.{eventIn, scanParts, scanIfFits, scanAt, placeOrEnd}
+use Rattle.tray_scan.specs.Scan.{trayEvent, scanParts, scanIfFits, scanAt, placeOrEnd}
 use Rattle.tray_scan.proofs.Parts.{same-event}
 use Rattle.tray.specs.Scan.{overRun, headerWith, readScan, readScanFrom, eventOf, nextEvent}
 use Rattle.tray.proofs.Headers.{has-scan}
@@ -24,35 +24,35 @@ use Rattle.tray.proofs.Headers.{has-scan}
 module _ (h : TrayHeader) (k : ℕ) (s : List ℕ) where
   -- event k, which those before it precede
   abbrev kth : Parser Event
-  kth = repeat k (eventIn h) >> eventIn h
+  kth = repeat k (trayEvent h) >> trayEvent h
 
   abbrev pub placeIn : Outcome ℕ
   placeIn = eventPlace (h .version) (h .primary) (h .dependent) (h .events) k s
 
-  at-place : {at : ℕ} → ok at ≡ placeIn → partAt 3 at (eventIn h) s ≡ partAt 3 (h .events) kth s
+  at-place : {at : ℕ} → ok at ≡ placeIn → partAt 3 at (trayEvent h) s ≡ partAt 3 (h .events) kth s
   unfolding eventPlace partAt
   at-place i =
-      let f = found 3 (h .events) (repeat k (eventIn h)) (λ (_ : List Event) (n : ℕ). n) s i in
-      rw (parse-bind (repeat k (eventIn h)) (λ _. eventIn h) s (h .events), f .there)
-      (ap (λ n. onward {A = Event × ℕ} 3 (parse (eventIn h) s n) (λ e next. ok (e, next))) (f .made))
+      let f = found 3 (h .events) (repeat k (trayEvent h)) (λ (_ : List Event) (n : ℕ). n) s i in
+      rw (parse-bind (repeat k (trayEvent h)) (λ _. trayEvent h) s (h .events), f .there)
+      (ap (λ n. onward {A = Event × ℕ} 3 (parse (trayEvent h) s n) (λ e next. ok (e, next))) (f .made))
 
-  no-place : {n : ℕ} {carries : List ℕ} → refused n carries ≡ placeIn → (at : ℕ) → length s ≤ at → partAt 3 at (eventIn h) s ≡ partAt 3 (h .events) kth s
+  no-place : {n : ℕ} {carries : List ℕ} → refused n carries ≡ placeIn → (at : ℕ) → length s ≤ at → partAt 3 at (trayEvent h) s ≡ partAt 3 (h .events) kth s
   unfolding eventPlace eventEnd partAt
   no-place i at far =
-      let r = ran-out 3 (h .events) (repeat k (eventIn h)) (λ (_ : List Event) (n : ℕ). n) s i in
-      let none = ran-out 3 at (eventIn h) (λ (_ : Event) (n : ℕ). n) s (sym (none-after (h .version) (h .primary) (h .dependent) s at far)) in
-      rw (parse-bind (repeat k (eventIn h)) (λ _. eventIn h) s (h .events), r .there, none .there)
+      let r = ran-out 3 (h .events) (repeat k (trayEvent h)) (λ (_ : List Event) (n : ℕ). n) s i in
+      let none = ran-out 3 at (trayEvent h) (λ (_ : Event) (n : ℕ). n) s (sym (none-after (h .version) (h .primary) (h .dependent) s at far)) in
+      rw (parse-bind (repeat k (trayEvent h)) (λ _. trayEvent h) s (h .events), r .there, none .there)
 
-  pub from-place : {at : ℕ} → ok at ≡ placeIn → outcome (scanParts h k at (eventIn h)) s ≡ outcome (scanParts h k (h .events) kth) s
-  from-place {at} i = same-event h k s at (h .events) (eventIn h) kth (at-place i)
+  pub from-place : {at : ℕ} → ok at ≡ placeIn → outcome (scanParts h k at (trayEvent h)) s ≡ outcome (scanParts h k (h .events) kth) s
+  from-place {at} i = same-event h k s at (h .events) (trayEvent h) kth (at-place i)
 
-  pub from-end : {n : ℕ} {carries : List ℕ} → refused n carries ≡ placeIn → (at : ℕ) → length s ≤ at → outcome (scanParts h k at (eventIn h)) s ≡ outcome (scanParts h k (h .events) kth) s
-  from-end i at far = same-event h k s at (h .events) (eventIn h) kth (no-place i at far)
+  pub from-end : {n : ℕ} {carries : List ℕ} → refused n carries ≡ placeIn → (at : ℕ) → length s ≤ at → outcome (scanParts h k at (trayEvent h)) s ≡ outcome (scanParts h k (h .events) kth) s
+  from-end i at far = same-event h k s at (h .events) (trayEvent h) kth (no-place i at far)
 
-  pub from-either : length s < 2 ^ 63 → outcome (scanParts h k (placeOrEnd placeIn) (eventIn h)) s ≡ outcome (scanParts h k (h .events) kth) s
+  pub from-either : length s < 2 ^ 63 → outcome (scanParts h k (placeOrEnd placeIn) (trayEvent h)) s ≡ outcome (scanParts h k (h .events) kth) s
   from-either few = go placeIn refl
     where
-      go : (o : Outcome ℕ) → o ≡ placeIn → outcome (scanParts h k (placeOrEnd o) (eventIn h)) s ≡ outcome (scanParts h k (h .events) kth) s
+      go : (o : Outcome ℕ) → o ≡ placeIn → outcome (scanParts h k (placeOrEnd o) (trayEvent h)) s ≡ outcome (scanParts h k (h .events) kth) s
       go (ok at) i = from-place i
       go (refused n carries) i = from-end i (2 ^ 64 - 1) (omega arith)
 
@@ -71,14 +71,14 @@ module _ (limit number : ℕ) (s : List ℕ) where
 
   module _ (capacities : List ℕ) (k at : ℕ) where
     -- they agree in a tray if they do in its run
-    in-tray : (o : Outcome ℕ) → ((h : TrayHeader) → o ≡ placeIn h k (drop 32 s) → outcome (scanParts h k at (eventIn h)) (drop 32 s) ≡ outcome (scanParts h k (h .events) (kth h k (drop 32 s))) (drop 32 s))
+    in-tray : (o : Outcome ℕ) → ((h : TrayHeader) → o ≡ placeIn h k (drop 32 s) → outcome (scanParts h k at (trayEvent h)) (drop 32 s) ≡ outcome (scanParts h k (h .events) (kth h k (drop 32 s))) (drop 32 s))
         → o ≡ eventOf limit number k s → readScanFrom limit number capacities k at s ≡ readScan limit number capacities k s
     unfolding eventOf readScanFrom readScan
     in-tray o same i = go (headerWith limit number k s) i
       where
         go : (t : Outcome TrayHeader) → o ≡ overRun t (λ h. eventPlace (h .version) (h .primary) (h .dependent) (h .events) k) s
-            → andThen (overRun t (λ h. outcome (scanParts h k at (eventIn h))) s) (scanIfFits capacities)
-            ≡ andThen (overRun t (λ h. outcome (scanParts h k (h .events) (repeat k (eventIn h) >> eventIn h))) s) (scanIfFits capacities)
+            → andThen (overRun t (λ h. outcome (scanParts h k at (trayEvent h))) s) (scanIfFits capacities)
+            ≡ andThen (overRun t (λ h. outcome (scanParts h k (h .events) (repeat k (trayEvent h) >> trayEvent h))) s) (scanIfFits capacities)
         go (ok h) j = ap (λ o. andThen o (scanIfFits capacities)) (same h j)
         go (refused n carries) j = refl
 

@@ -10,7 +10,7 @@ use Rattle.parser.specs.Call.{outcome}
 use Rattle.events.specs.Event.{eventPlace}
 use Rattle.tray_header.specs.Header.{readHeader}
 use Rattle.tray_header.specs.declared.TrayHeader.{TrayHeader}
-use Rattle.tray_scan.specs.Scan.{eventIn, scanParts, WrittenScan, scanIfFits, endIn}
+use Rattle.tray_scan.specs.Scan.{trayEvent, scanParts, WrittenScan, scanIfFits, endIn}
 
 -- what follows of a header, over the run, which starts at byte 32
 abbrev pub overRun : {A : Type 0} → Outcome TrayHeader → (TrayHeader → List ℕ → Outcome A) → List ℕ → Outcome A
@@ -25,11 +25,11 @@ module _ (limit number : ℕ) where
   -- what `read_scan` answers: the events 0 to k stand where the header says
   unfoldable pub readScan : List ℕ → ℕ → List ℕ → Outcome WrittenScan
   readScan capacities k tray =
-      andThen (overRun (headerWith k tray) (λ h. outcome (scanParts h k (h .events) (repeat k (eventIn h) >> eventIn h))) tray) (scanIfFits capacities)
+      andThen (overRun (headerWith k tray) (λ h. outcome (scanParts h k (h .events) (repeat k (trayEvent h) >> trayEvent h))) tray) (scanIfFits capacities)
 
   -- `read_scan_from`: event k stands at a place of the run that the caller gives
   unfoldable pub readScanFrom : List ℕ → ℕ → ℕ → List ℕ → Outcome WrittenScan
-  readScanFrom capacities k at tray = andThen (overRun (headerWith k tray) (λ h. outcome (scanParts h k at (eventIn h))) tray) (scanIfFits capacities)
+  readScanFrom capacities k at tray = andThen (overRun (headerWith k tray) (λ h. outcome (scanParts h k at (trayEvent h))) tray) (scanIfFits capacities)
 
   -- `event_of` and `next_event`
   unfoldable pub eventOf : ℕ → List ℕ → Outcome ℕ

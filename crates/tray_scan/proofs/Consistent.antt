@@ -11,7 +11,7 @@ use Rattle.parser.specs.Call.{outcome}
 use Rattle.event_record.specs.Event.{describe, eventLists}
 use Rattle.tray_header.specs.declared.TrayHeader.{TrayHeader}
 use Rattle.tray_data.specs.Data.{pairs}
-use Rattle.tray_scan.specs.Scan.{eventIn, ScanParts, scanParts, WrittenScan, scanIfFits, scanAt}
+use Rattle.tray_scan.specs.Scan.{trayEvent, ScanParts, scanParts, WrittenScan, scanIfFits, scanAt}
 
 pub record Consistent (coefficients mz intensity : ℕ) (v : WrittenScan) : Type 0 where
   pub count : v .0 .pairs ≡ length (v .2)
@@ -34,4 +34,4 @@ module _ (a b c d m i : ℕ) where
 
   pub consistent : (h : TrayHeader) (k at : ℕ) (s : List ℕ) {v : WrittenScan} → ok v ≡ scanAt capacities h k at s → Consistent d m i v
   unfolding scanAt
-  consistent h k at s e = let w = both-ok (scanIfFits capacities) (outcome (scanParts h k at (eventIn h)) s) e in of-parts (w .value) (w .second)
+  consistent h k at s e = let w = both-ok (scanIfFits capacities) (outcome (scanParts h k at (trayEvent h)) s) e in of-parts (w .value) (w .second)

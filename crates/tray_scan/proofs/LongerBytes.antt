@@ -32,7 +32,7 @@ use Rattle.tray_header.specs.declared.TrayHeader.{TrayHeader}
 use Rattle.tray_header.proofs.Found.{Words}
 use Rattle.tray_data.specs.Data.{Finding, ofFinding, dataStart, pairs}
 use Rattle.tray_data.proofs.LongerBytes.{data-bounded, finding-not-truncated}
-use Rattle.tray_scan.specs.Scan.{formatIn, entryIn, eventIn, ScanParts, scanParts, WrittenScan, scanIfFits, scanAt, endIn, placeOrEnd, outcomeOf}
+use Rattle.tray_scan.specs.Scan.{formatIn, entryIn, trayEvent, ScanParts, scanParts, WrittenScan, scanIfFits, scanAt, endIn, placeOrEnd, outcomeOf}
 use Rattle.tray_scan.specs.Internal.{entryOf, withData}
 use Rattle.tray_scan.specs.declared.ScanAnswer.{ScanAnswer}
 use Rattle.tray_scan.specs.declared.ScanAndNext.{ScanAndNext}
@@ -72,22 +72,22 @@ module _ (h : TrayHeader) (k : ℕ) where
       (skip n) (demand-sized (2 ^ 62) n (skip n) (sized-raw n)) .bounded)
 
   module _ (w : Words h) where
-    one : DemandBound (2 ^ 62) (2 ^ 39) Any (eventIn h)
+    one : DemandBound (2 ^ 62) (2 ^ 39) Any (trayEvent h)
     one = event-demand (h .version) (h .primary) (h .dependent) (w .primary) (w .dependent)
 
-    many : DemandBound (2 ^ 62) (2 ^ 39 + k * 2 ^ 39) Any (repeat k (eventIn h))
-    many = demand-repeat (2 ^ 62) (2 ^ 39) (2 ^ 39) k (eventIn h) Any one (one .zeros)
+    many : DemandBound (2 ^ 62) (2 ^ 39 + k * 2 ^ 39) Any (repeat k (trayEvent h))
+    many = demand-repeat (2 ^ 62) (2 ^ 39) (2 ^ 39) k (trayEvent h) Any one (one .zeros)
 
-    pub event-bounded : Bounded (2 ^ 62) (2 ^ 61) (eventIn h)
-    event-bounded = bounded-more (2 ^ 62) (2 ^ 39) (2 ^ 61) (eventIn h) (lit≤ tt) (one .bounded)
+    pub event-bounded : Bounded (2 ^ 62) (2 ^ 61) (trayEvent h)
+    event-bounded = bounded-more (2 ^ 62) (2 ^ 39) (2 ^ 61) (trayEvent h) (lit≤ tt) (one .bounded)
 
-    pub events-bounded : k < 2 ^ 16 → Bounded (2 ^ 62) (2 ^ 61) (repeat k (eventIn h))
-    events-bounded few = bounded-more (2 ^ 62) (2 ^ 39 + k * 2 ^ 39) (2 ^ 61) (repeat k (eventIn h)) (omega arith) (many .bounded)
+    pub events-bounded : k < 2 ^ 16 → Bounded (2 ^ 62) (2 ^ 61) (repeat k (trayEvent h))
+    events-bounded few = bounded-more (2 ^ 62) (2 ^ 39 + k * 2 ^ 39) (2 ^ 61) (repeat k (trayEvent h)) (omega arith) (many .bounded)
 
-    pub kth-bounded : k < 2 ^ 16 → Bounded (2 ^ 62) (2 ^ 61) (repeat k (eventIn h) >> eventIn h)
+    pub kth-bounded : k < 2 ^ 16 → Bounded (2 ^ 62) (2 ^ 61) (repeat k (trayEvent h) >> trayEvent h)
     kth-bounded few =
-        bounded-more (2 ^ 62) (2 ^ 39 + k * 2 ^ 39 + 2 ^ 39) (2 ^ 61) (repeat k (eventIn h) >> eventIn h) (omega arith)
-        (demand-bind (2 ^ 62) (2 ^ 39 + k * 2 ^ 39) (2 ^ 39) Any Any (λ _. eventIn h) (λ _ _. one) (repeat k (eventIn h)) many .bounded)
+        bounded-more (2 ^ 62) (2 ^ 39 + k * 2 ^ 39 + 2 ^ 39) (2 ^ 61) (repeat k (trayEvent h) >> trayEvent h) (omega arith)
+        (demand-bind (2 ^ 62) (2 ^ 39 + k * 2 ^ 39) (2 ^ 39) Any Any (λ _. trayEvent h) (λ _ _. one) (repeat k (trayEvent h)) many .bounded)
 
   -- the events are read by a parser at a place
   module _ (place : ℕ) (events : Parser Event) where
@@ -156,26 +156,26 @@ module _ (h : TrayHeader) (k at : ℕ) where
   module _ (capacities : List ℕ) where
     pub scan-at-prefix : PrefixProperty (scanAt capacities h k at)
     unfolding scanAt
-    scan-at-prefix = then-prefix (outcome (scanParts h k at (eventIn h))) (prefix-property (scanParts h k at (eventIn h))) (λ p _. scanIfFits capacities p) (λ _ _ _ _. refl)
+    scan-at-prefix = then-prefix (outcome (scanParts h k at (trayEvent h))) (prefix-property (scanParts h k at (trayEvent h))) (λ p _. scanIfFits capacities p) (λ _ _ _ _. refl)
 
     pub scan-at-names : Names RunPart (scanAt capacities h k at)
     unfolding scanAt
     scan-at-names =
-        let c = scanParts h k at (eventIn h) in
+        let c = scanParts h k at (trayEvent h) in
         then-names (outcome c) (scanIfFits capacities) (scan-not-truncated capacities) RunPart
-        (parts-names RunPart c (scan-parts-in h k at (eventIn h) RunPart (inl refl) (inr (inl refl)) (inr (inr refl))))
+        (parts-names RunPart c (scan-parts-in h k at (trayEvent h) RunPart (inl refl) (inr (inl refl)) (inr (inr refl))))
 
     pub scan-at-completes : Words h → k < 2 ^ 32 → (q : ℕ) → RunPart q → (s : List ℕ) → Bytes s → length s < 2 ^ 62 → AtNear q s → CompletesOn q (scanAt capacities h k at) s
     unfolding scanAt
     scan-at-completes w small q p s isBytes few near =
-        let c = scanParts h k at (eventIn h) in
+        let c = scanParts h k at (trayEvent h) in
         then-completes-on (outcome c) (scanIfFits capacities) (scan-not-truncated capacities) q s
-        (completion (2 ^ 61) (lit< tt) q c s (scan-covers h k at (eventIn h) w small s isBytes q p (λ e. (near .0 e, event-bounded h k w)) (near .1)) isBytes few)
+        (completion (2 ^ 61) (lit< tt) q c s (scan-covers h k at (trayEvent h) w small s isBytes q p (λ e. (near .0 e, event-bounded h k w)) (near .1)) isBytes few)
 
     -- without its event there is no scan
     no-scan : (s : List ℕ) (p : ℕ) → endIn h at s ≡ ranOut p → (q : ℕ) × (scanAt capacities h k at s ≡ ranOut q)
     unfolding scanAt scanParts withData eventEnd outcome
-    no-scan s p i = go (parse (entryIn h k) s (h .index)) (parse (eventIn h) s at) i
+    no-scan s p i = go (parse (entryIn h k) s (h .index)) (parse (trayEvent h) s at) i
       where
         go : (o : Parsed ScanIndexEntry) (v : Parsed Event) → onward 3 v (λ _ next. ok next) ≡ ranOut p
             → (q : ℕ) × (andThen (onward 2 o (λ entry _. onward 3 v (λ e next. outcome (withData h entry e next) s))) (scanIfFits capacities) ≡ ranOut q)

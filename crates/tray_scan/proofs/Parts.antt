@@ -25,7 +25,7 @@ use Rattle.tray_header.specs.declared.TrayHeader.{TrayHeader}
 use Rattle.tray_data.specs.Data.{findData, contentAt}
 use Rattle.tray_data.specs.declared.ScanData.{ScanData}
 use Rattle.tray_data.proofs.Answers.{data-found, data-refused}
-use Rattle.tray_scan.specs.Scan.{formatIn, entryIn, eventIn, ScanParts, scanParts, scanIfFits, scanAt, endIn, placeOrEnd}
+use Rattle.tray_scan.specs.Scan.{formatIn, entryIn, trayEvent, ScanParts, scanParts, scanIfFits, scanAt, endIn, placeOrEnd}
 use Rattle.tray_scan.specs.Internal.{entryOf, withData, inTurn, eventFound, nextPlace}
 
 module _ (h : TrayHeader) (k : ℕ) (s : List ℕ) where
@@ -92,12 +92,12 @@ module _ (h : TrayHeader) (at : ℕ) (s : List ℕ) where
   abbrev pub Finds : PlacesAnswer → Type 0
   Finds x = outcomeOfPlaces x ≡ findBy (layout (h .version) (h .primary) (h .dependent)) at s
 
-  is-event : (x : PlacesAnswer) → Finds x → eventFound s x ≡ partAt 3 at (eventIn h) s
+  is-event : (x : PlacesAnswer) → Finds x → eventFound s x ≡ partAt 3 at (trayEvent h) s
   is-event x e = ap (onOk _) e ∙ found-event (h .version) (h .primary) (h .dependent) at s
 
-  pub end-is : endIn h at s ≡ andThen (partAt 3 at (eventIn h) s) (λ v. ok (v .1))
+  pub end-is : endIn h at s ≡ andThen (partAt 3 at (trayEvent h) s) (λ v. ok (v .1))
   unfolding eventEnd outcome partAt
-  end-is = go (parse (eventIn h) s at)
+  end-is = go (parse (trayEvent h) s at)
     where
       go : (o : Parsed Event) → onward 3 o (λ _ next. ok next) ≡ andThen {A = Event × ℕ} (onward 3 o (λ e next. ok (e, next))) (λ v. ok (v .1))
       go short = refl
@@ -112,8 +112,8 @@ module _ (h : TrayHeader) (at : ℕ) (s : List ℕ) where
 
 -- ---- the scan, where the event was sought first
 module _ (h : TrayHeader) (k at : ℕ) (s : List ℕ) (x : PlacesAnswer) (e : Finds h at s x) where
-  whole : inTurn h k (eventFound s x) s ≡ outcome (scanParts h k at (eventIn h)) s
-  whole = ap (λ o. inTurn h k o s) (is-event h at s x e) ∙ in-turn h k s at (eventIn h)
+  whole : inTurn h k (eventFound s x) s ≡ outcome (scanParts h k at (trayEvent h)) s
+  whole = ap (λ o. inTurn h k o s) (is-event h at s x e) ∙ in-turn h k s at (trayEvent h)
 
   pub not-found : {n : ℕ} {carries : List ℕ} → refused n carries ≡ inTurn h k (eventFound s x) s → (capacities : List ℕ) → refused n carries ≡ scanAt capacities h k at s
   unfolding scanAt

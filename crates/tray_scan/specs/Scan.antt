@@ -28,8 +28,8 @@ formatIn h = formatOf (h .version) (eqb (h .flat) 1)
 unfoldable pub entryIn : TrayHeader → ℕ → Parser ScanIndexEntry
 entryIn h k = skip (k * entrySize (h .version)) >> entry (h .version)
 
-abbrev pub eventIn : TrayHeader → Parser Event
-eventIn h = event (h .version) (h .primary) (h .dependent)
+abbrev pub trayEvent : TrayHeader → Parser Event
+trayEvent h = event (h .version) (h .primary) (h .dependent)
 
 -- a scan as it was read, and the place after its event
 pub record ScanParts : Type 0 where
@@ -59,7 +59,7 @@ scanIfFits capacities p =
 
 -- what `scan_at` answers, where event k stands at a place
 unfoldable pub scanAt : List ℕ → TrayHeader → ℕ → ℕ → List ℕ → Outcome WrittenScan
-scanAt capacities h k at run = andThen (outcome (scanParts h k at (eventIn h)) run) (scanIfFits capacities)
+scanAt capacities h k at run = andThen (outcome (scanParts h k at (trayEvent h)) run) (scanIfFits capacities)
 
 -- the place after that event; where it was not found, the last of all, at which no run has an event
 abbrev pub endIn : TrayHeader → ℕ → List ℕ → Outcome ℕ

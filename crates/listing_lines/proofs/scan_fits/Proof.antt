@@ -6,7 +6,7 @@ use lib.Ieee.{Float}
 use lib.ListN.{length}
 use borrow.Author.Tests.{lt-leb}
 use denote.Ref.{now}
-use Rattle.listing_lines.specs.Lines.{mass, scanLines}
+use Rattle.listing_lines.specs.Lines.{massText, scanLines}
 use Rattle.listing_lines.proofs.Room.{mass-most}
 use Rattle.listing_lines.proofs.Listing.{linesFrom, size-turn, size-end, first-size}
 use borrow.Author.Needs.{needs}
@@ -33,7 +33,7 @@ returns c =
     sym (lt-leb (length (scanLines (a .number) (a .coefficients) (now (a .mz)) (now (a .intensity)))) (a .room) (omega (arith, l .loop .inv)))
 
 -- a mass is short
-few : {n : ℕ} (mz : Float) → n ≡ length (mass mz) → n ≤ 9
+few : {n : ℕ} (mz : Float) → n ≡ length (massText mz) → n ≤ 9
 few mz e = omega (arith, mass-most mz)
 
 add-size : tie.Need-add-size Inv-loop μ-loop
