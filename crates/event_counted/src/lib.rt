@@ -51,7 +51,7 @@ fn judge_record(start: u64, body: &[u8], i: u64) -> Records
     Records::Refused(Refusal::BodyTooShort)
 }
 
-// The first n records. The loop ends at the first that passes the body, whatever count is stored.
+// The first n records. The loop ends at the first that is wrong or passes the body, whatever count is stored.
 fn judge_records(start: u64, body: &[u8], n: u64) -> Records
     requires { ⌜ (start < 2 ^ 63 + 2 ^ 32) × (n < 2 ^ 32) ⌝ }
     ensures { λ r. ⌜ outcomeOfRecords r ≡ judgeRecords start (now (body .entry)) n ⌝ }

@@ -27,7 +27,7 @@ use Rattle.tray_header.specs.declared.TrayHeader.{TrayHeader}
 use Rattle.tray_header.proofs.Found.{Words, whole, words}
 use Rattle.tray_header.proofs.LongerBytes.{header-prefix, header-names, header-completes}
 use Rattle.tray_scan.specs.Scan.{trayEvent, ScanParts, scanParts, WrittenScan, scanIfFits, outcomeOf}
-use Rattle.tray_scan.proofs.LongerBytes.{Lent, written-longer, PartsIn, parts-names, RunPart, DataNear, event-bounded, events-bounded, kth-bounded, scan-parts-in, scan-avoids, scan-covers, scan-not-truncated}
+use Rattle.tray_scan.proofs.LongerBytes.{OutputSlices, written-longer, PartsIn, parts-names, RunPart, DataNear, event-bounded, events-bounded, kth-bounded, scan-parts-in, scan-avoids, scan-covers, scan-not-truncated}
 use Rattle.tray.specs.Scan.{overRun, headerWith, readScan, readScanFrom, eventOf, nextEvent}
 use Rattle.tray.proofs.Headers.{numbered, with-size, with-few}
 
@@ -184,11 +184,11 @@ module _ (limit number : ℕ) where
           abbrev capacities : List ℕ
           capacities = lengths xs ++ length m ∷ length i ∷ []
 
-          pub scan-of-longer : OnLongerBytes outcomeOf (λ s r (ys : Lent). LeftListsAndPairs (λ c. readScan limit number c k s) xs m i (outcomeOf r) (ys .0) (ys .1) (ys .2)) ScanPart (ScanNear k)
+          pub scan-of-longer : OnLongerBytes outcomeOf (λ s r (ys : OutputSlices). LeftListsAndPairs (λ c. readScan limit number c k s) xs m i (outcomeOf r) (ys .0) (ys .1) (ys .2)) ScanPart (ScanNear k)
           scan-of-longer = written-longer xs m i ScanPart (ScanNear k) (readScan limit number capacities k) (scan-of-prefix capacities) (scan-of-names capacities) (scan-of-completes capacities)
 
           pub scan-from-of-longer : (at : ℕ)
-              → OnLongerBytes outcomeOf (λ s r (ys : Lent). LeftListsAndPairs (λ c. readScanFrom limit number c k at s) xs m i (outcomeOf r) (ys .0) (ys .1) (ys .2)) ScanPart (FromNear k at)
+              → OnLongerBytes outcomeOf (λ s r (ys : OutputSlices). LeftListsAndPairs (λ c. readScanFrom limit number c k at s) xs m i (outcomeOf r) (ys .0) (ys .1) (ys .2)) ScanPart (FromNear k at)
           scan-from-of-longer at =
               written-longer xs m i ScanPart (FromNear k at) (readScanFrom limit number capacities k at) (scan-from-of-prefix at capacities) (scan-from-of-names at capacities) (scan-from-of-completes at capacities)
 

@@ -1,5 +1,5 @@
--- A tray that breaks off after its header: version 8, two scans, all places 0. Where event 1 stands is refused, not told, and
--- with the 77 bytes of event 0 after the header it is known.
+-- A tray that breaks off after its header: version 8, flat 1, two scans, all places 0. The place of event 1 is refused, and with the
+-- 77 bytes of event 0 after the header it is answered.
 use mathlib.Core.Path.{_≡_, refl}
 use Prim.Native.Nat.{ℕ}
 use mathlib.Core.List.{List, [], _∷_, _++_}

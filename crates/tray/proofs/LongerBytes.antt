@@ -10,7 +10,7 @@ use Rattle.lists.specs.Left.{LeftListsAndPairs}
 use Rattle.parser.specs.LongerBytes.{Bytes, OnLongerBytes, PrefixProperty, Names, CompletesOn}
 use Rattle.tray_header.proofs.LongerBytes.{six}
 use Rattle.tray_scan.specs.Scan.{outcomeOf}
-use Rattle.tray_scan.proofs.LongerBytes.{Lent}
+use Rattle.tray_scan.proofs.LongerBytes.{OutputSlices}
 use Rattle.tray.specs.Scan.{readScan, readScanFrom, eventOf, nextEvent}
 use Rattle.tray.proofs.AnyLimit.{ScanPart, PlacePart, ScanNear, FromNear, EndNear}
 use Rattle.tray.proofs.AnyLimit as any
@@ -26,11 +26,11 @@ pub scan-completes : (capacities : List ℕ) (k q : ℕ) → ScanPart q → (s :
 scan-completes capacities k = any.scan-of-completes 4096 6 six (lit< tt) k capacities
 
 pub scan-longer : (k : ℕ) (xs : List (List ℕ)) (m i : List Float)
-    → OnLongerBytes outcomeOf (λ s r (ys : Lent). LeftListsAndPairs (λ c. readScan 4096 6 c k s) xs m i (outcomeOf r) (ys .0) (ys .1) (ys .2)) ScanPart (ScanNear 4096 6 k)
+    → OnLongerBytes outcomeOf (λ s r (ys : OutputSlices). LeftListsAndPairs (λ c. readScan 4096 6 c k s) xs m i (outcomeOf r) (ys .0) (ys .1) (ys .2)) ScanPart (ScanNear 4096 6 k)
 scan-longer k = any.scan-of-longer 4096 6 six (lit< tt) k
 
 pub from-longer : (k at : ℕ) (xs : List (List ℕ)) (m i : List Float)
-    → OnLongerBytes outcomeOf (λ s r (ys : Lent). LeftListsAndPairs (λ c. readScanFrom 4096 6 c k at s) xs m i (outcomeOf r) (ys .0) (ys .1) (ys .2)) ScanPart (FromNear 4096 6 k at)
+    → OnLongerBytes outcomeOf (λ s r (ys : OutputSlices). LeftListsAndPairs (λ c. readScanFrom 4096 6 c k at s) xs m i (outcomeOf r) (ys .0) (ys .1) (ys .2)) ScanPart (FromNear 4096 6 k at)
 from-longer k at xs m i = any.scan-from-of-longer 4096 6 six (lit< tt) k xs m i at
 
 -- ---- places of events

@@ -106,7 +106,7 @@ pub fn next_event(tray: &[u8], at: u64) -> CountAnswer
     }
 }
 
-// A place to read event k at. Where there is none it is after every run: entry k is judged first, and then the events.
+// A place to read event k at. Where there is none it is after every run, where the event runs out again, after entry k.
 fn place_or_end(found: CountAnswer) -> u64
     ensures { λ r. ⌜ r ≡ placeOrEnd (outcomeOfCount found) ⌝ }
 {

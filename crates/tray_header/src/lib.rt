@@ -11,7 +11,7 @@ use refusal::Refusal;
 
 pub struct TrayHeader {
     pub version: u32,
-    // 0 or 1.
+    // 0 or 1 in a header that was read.
     pub flat: u32,
     // Body sizes of primary and dependent events, from version 66 on.
     pub primary: u32,

@@ -134,15 +134,15 @@ scan-not-truncated capacities p =
     not-truncated-room {A = WrittenScan} (fits (lengths (eventLists (p .event)) ++ length ps ∷ length ps ∷ []) capacities) _
 
 -- what is lent, and the sentences on a call that writes a scan
-abbrev pub Lent : Type 0
-Lent = List (List ℕ) × List Float × List Float
+abbrev pub OutputSlices : Type 0
+OutputSlices = List (List ℕ) × List Float × List Float
 
 pub written-longer : (xs : List (List ℕ)) (m i : List Float) (parts : ℕ → Type 0) (near : ℕ → List ℕ → Type 0) (f : List ℕ → Outcome WrittenScan) → PrefixProperty f → Names parts f
     → ((q : ℕ) → parts q → (s : List ℕ) → Bytes s → length s < 2 ^ 62 → near q s → CompletesOn q f s)
-    → OnLongerBytes outcomeOf (λ s r (ys : Lent). LeftListsAndPairs (λ _. f s) xs m i (outcomeOf r) (ys .0) (ys .1) (ys .2)) parts near
+    → OnLongerBytes outcomeOf (λ s r (ys : OutputSlices). LeftListsAndPairs (λ _. f s) xs m i (outcomeOf r) (ys .0) (ys .1) (ys .2)) parts near
 written-longer xs m i parts near f prefix names completes =
     left-longer outcomeOf scan-answer-one f prefix parts near names (λ q s isBytes few low o. completes q (names s q o) s isBytes few low o) (λ (v : WrittenScan). v .0)
-    (λ (v : WrittenScan) (l : Lent). (overAll (v .1) (l .0), over (firsts (v .2)) (l .1), over (seconds (v .2)) (l .2))) (xs, m, i)
+    (λ (v : WrittenScan) (l : OutputSlices). (overAll (v .1) (l .0), over (firsts (v .2)) (l .1), over (seconds (v .2)) (l .2))) (xs, m, i)
 
 abbrev andNext : ScanAnswer → ℕ → ScanAndNext
 andNext scan next = record { scan = scan; next = next }
@@ -188,7 +188,7 @@ module _ (h : TrayHeader) (k at : ℕ) where
 
   -- the sentences, on the answer, the next place and all six slices
   module _ (xs : List (List ℕ)) (m i : List Float) where
-    abbrev pub Meets : List ℕ → ScanAndNext → Lent → Type 0
+    abbrev pub Meets : List ℕ → ScanAndNext → OutputSlices → Type 0
     Meets s r ys = LeftListsAndPairs (λ c. scanAt c h k at s) xs m i (outcomeOf (r .scan)) (ys .0) (ys .1) (ys .2) × (r .next ≡ placeOrEnd (endIn h at s))
 
     pub scan-at-longer : Words h → k < 2 ^ 32 → OnLongerBytes (λ r. outcomeOf (r .scan)) Meets RunPart AtNear
