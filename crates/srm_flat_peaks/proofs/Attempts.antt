@@ -66,31 +66,16 @@ module _ (end cumEnd dataSize subtract : ℕ) (s : List ℕ) (at : ℕ) where
       runs-out v = rw (lt-leb _ _ t, le-ltb _ _ u, ← e, parse-from s place (dataSize - subtract) place, lt-leb _ _ v)
 
       module _ (v : (dataSize - subtract) * 8 ≤ left s place) where
+        -- peaks that are there are accepted by the first, or passed over
+        by-first : attemptAnswer (parse (attempt end cumEnd dataSize subtract) s at)
+            ≡ attemptAnswer (parsed (cond (isPlausible (ofBits binary32 (littleEndian (bytes s place 4)))) (accepted place (peaksAt false 8 s place (dataSize - subtract))) passedOver) (place + (dataSize - subtract) * 8))
+        unfolding attempt parse
+        by-first = rw (lt-leb _ _ t, le-ltb _ _ u, ← e, parse-from s place (dataSize - subtract) place, le-leb _ _ v, first-decides s place (dataSize - subtract) (omega arith))
+
         pub plausible-first : isPlausible (ofBits binary32 (littleEndian (bytes s place 4))) ≡ true
             → Accepted place (dataSize - subtract) ≡ attemptAnswer (parse (attempt end cumEnd dataSize subtract) s at)
-        unfolding attempt parse
-        plausible-first w =
-            rw (
-              lt-leb _ _ t,
-              le-ltb _ _ u,
-              ← e,
-              parse-from s place (dataSize - subtract) place,
-              le-leb _ _ v,
-              first-decides s place (dataSize - subtract) (omega arith),
-              w,
-              length-peaks false 8 s place (dataSize - subtract),
-            )
+        plausible-first w = rw (by-first, w, length-peaks false 8 s place (dataSize - subtract))
 
         pub implausible-first : isPlausible (ofBits binary32 (littleEndian (bytes s place 4))) ≡ false
             → PassedOver ≡ attemptAnswer (parse (attempt end cumEnd dataSize subtract) s at)
-        unfolding attempt parse
-        implausible-first w =
-            rw (
-              lt-leb _ _ t,
-              le-ltb _ _ u,
-              ← e,
-              parse-from s place (dataSize - subtract) place,
-              le-leb _ _ v,
-              first-decides s place (dataSize - subtract) (omega arith),
-              w,
-            )
+        implausible-first w = rw (by-first, w)
