@@ -1,10 +1,10 @@
 -- The window at one place, and the search, candidate by candidate.
-use mathlib.Core.Path.{_≡_, sym, _∙_}
+use mathlib.Core.Path.{_≡_, refl, sym, _∙_}
 use mathlib.Core.Logic.{⊎-elim}
 use mathlib.Core.Bool.{true, false}
 use Prim.Native.Nat.{ℕ, _+_, _≤_, _<_}
 use native.Mathlib.Omega.{arith}
-use mathlib.Core.List.{List, [], _∷_}
+use mathlib.Core.List.{List, [], _∷_, _++_}
 use lib.Ieee.{Float, binary64, ofBits}
 use borrow.Author.Tests.{le-leb, lt-leb}
 use Rattle.lists.proofs.Cases.{bool-cases}
@@ -13,7 +13,6 @@ use Rattle.event_window.specs.Window.{plausibleEnds, windowOf, hasWindow
 use Rattle.event_window.specs.Internal.{firstOf}
 use Rattle.event_window.specs.declared.Window.{Window}
 use Rattle.event_window.specs.declared.Window.the-variants.{Absent, Ends}
-use Rattle.event_window.specs.declared.FoundWindow.{FoundWindow}
 
 module _ (body : List ℕ) (off : ℕ) where
   pub too-few : left body off < 16 → noWindow ≡ firstWindow body (off ∷ [])
@@ -41,9 +40,8 @@ module _ (body : List ℕ) (off : ℕ) where
         (λ (p : plausibleEnds (f64At body off) (f64At body (off + 8)) ≡ false). rw (le-leb _ _ t, p))
         (bool-cases (plausibleEnds (f64At body off) (f64At body (off + 8))))
 
-  -- the first of two, where the second is the rest of the search
-  pub one-more : (offs : List ℕ) {first rest both : FoundWindow} → first ≡ firstWindow body (off ∷ []) → rest ≡ firstWindow body offs → both ≡ firstOf first rest
-      → both ≡ firstWindow body (off ∷ offs)
+  -- one candidate more, after those that were searched
+  pub one-last : (offs : List ℕ) → firstOf (firstWindow body offs) (firstWindow body (off ∷ [])) ≡ firstWindow body (offs ++ off ∷ [])
   unfolding firstWindow
-  one-more offs e f h =
-      rw (e, f) at h ∙ ⊎-elim (λ (t : hasWindow body off ≡ true). rw t) (λ (t : hasWindow body off ≡ false). rw t) (bool-cases (hasWindow body off))
+  one-last [] = refl
+  one-last (o ∷ os) = ⊎-elim (λ (t : hasWindow body o ≡ true). rw t) (λ (t : hasWindow body o ≡ false). rw t (one-last os)) (bool-cases (hasWindow body o))

@@ -60,14 +60,14 @@ pub fn plausible_window(body: &[u8], off: u64) -> FoundWindow
     }
 }
 
-// The first of two that is a window.
-fn first_of(first: FoundWindow, second: FoundWindow) -> FoundWindow
-    ensures { λ r. ⌜ r ≡ firstOf first second ⌝ }
+// The window that was found, else the one at this place. A candidate after a window is not looked at.
+fn or_at(found: FoundWindow, body: &[u8], off: u64) -> FoundWindow
+    ensures { λ r. ⌜ r ≡ firstOf found (firstWindow (now (body .entry)) (off ∷ [])) ⌝ }
 {
-    let window = first.window;
+    let window = found.window;
     match window {
-        Window::Absent => second,
-        Window::Ends(_, _) => first,
+        Window::Absent => plausible_window(body, off),
+        Window::Ends(_, _) => found,
     }
 }
 
@@ -75,13 +75,8 @@ fn first_of(first: FoundWindow, second: FoundWindow) -> FoundWindow
 fn first_window(body: &[u8], a: u64, b: u64, c: u64, d: u64) -> FoundWindow
     ensures { λ r. ⌜ r ≡ firstWindow (now (body .entry)) (a ∷ b ∷ c ∷ d ∷ []) ⌝ }
 {
-    first_of(
-        plausible_window(body, a),
-        first_of(
-            plausible_window(body, b),
-            first_of(plausible_window(body, c), plausible_window(body, d)),
-        ),
-    )
+    let first = plausible_window(body, a);
+    or_at(or_at(or_at(first, body, b), body, c), body, d)
 }
 
 // The window of a body. A tribrid's dependent events have it elsewhere than other instruments.
