@@ -5,7 +5,7 @@ use mathlib.Core.List.{List}
 use Prim.Native.Nat.{ℕ, _+_, _*_, _≤_, _<_}
 use borrow.Author.Tests.{le-leb, lt-leb}
 use Rattle.lists.proofs.Cases.{leb-cases}
-use Rattle.parser.specs.Parser.{Parser, bytes, littleEndian, left, parse, word, skip, checkCount}
+use Rattle.parser.specs.Parser.{Parser, bytes, littleEndian, remaining, parse, word, skip, checkCount}
 use Rattle.binary_reader.specs.Read.{outcomeOf, outcomeOfThere, reads, placeAfter, Moves}
 use Rattle.refusal.specs.Outcome.{Outcome}
 use Rattle.binary_reader.specs.declared.BinaryReader.{BinaryReader}
@@ -15,41 +15,41 @@ use Rattle.binary_reader.specs.declared.BytesAnswer.{BytesAnswer}
 use Rattle.binary_reader.specs.declared.BytesAnswer.the-variants as there
 
 module _ (s : List ℕ) (at n : ℕ) where
-  pub word-there : n ≤ left s at → {w : ℕ} → w ≡ littleEndian (bytes s at n) → outcomeOf (number.Value w) ≡ reads (parse (word n) s at)
+  pub word-there : n ≤ remaining s at → {w : ℕ} → w ≡ littleEndian (bytes s at n) → outcomeOf (number.Value w) ≡ reads (parse (word n) s at)
   unfolding parse
   word-there h e = rw (le-leb _ _ h, e)
 
-  pub word-short : left s at < n → outcomeOf number.Short ≡ reads (parse (word n) s at)
+  pub word-short : remaining s at < n → outcomeOf number.Short ≡ reads (parse (word n) s at)
   unfolding parse
   word-short h = rw (lt-leb _ _ h)
 
-  pub skip-there : n ≤ left s at → outcomeOfThere there.There ≡ reads (parse (skip n) s at)
+  pub skip-there : n ≤ remaining s at → outcomeOfThere there.There ≡ reads (parse (skip n) s at)
   unfolding parse
   skip-there h = rw (le-leb _ _ h)
 
-  pub skip-short : left s at < n → outcomeOfThere there.Short ≡ reads (parse (skip n) s at)
+  pub skip-short : remaining s at < n → outcomeOfThere there.Short ≡ reads (parse (skip n) s at)
   unfolding parse
   skip-short h = rw (lt-leb _ _ h)
 
-  pub after-there : n ≤ left s at → at + n ≡ placeAfter at (parse (skip n) s at)
+  pub after-there : n ≤ remaining s at → at + n ≡ placeAfter at (parse (skip n) s at)
   unfolding parse
   after-there h = rw (le-leb _ _ h)
 
-  pub after-short : left s at < n → at ≡ placeAfter at (parse (skip n) s at)
+  pub after-short : remaining s at < n → at ≡ placeAfter at (parse (skip n) s at)
   unfolding parse
   after-short h = rw (lt-leb _ _ h)
 
   -- a number's bytes are passed as any others
   pub after-word : placeAfter at (parse (skip n) s at) ≡ placeAfter at (parse (word n) s at)
   unfolding parse
-  after-word = ⊎-elim (λ e. rw e) (λ e. rw e) (leb-cases n (left s at))
+  after-word = ⊎-elim (λ e. rw e) (λ e. rw e) (leb-cases n (remaining s at))
 
 module _ (s : List ℕ) (at n size : ℕ) where
-  pub count-there : n * size ≤ left s at → outcomeOfThere there.There ≡ reads (parse (checkCount n size) s at)
+  pub count-there : n * size ≤ remaining s at → outcomeOfThere there.There ≡ reads (parse (checkCount n size) s at)
   unfolding parse
   count-there h = rw (le-leb _ _ h)
 
-  pub count-short : left s at < n * size → outcomeOfThere there.Short ≡ reads (parse (checkCount n size) s at)
+  pub count-short : remaining s at < n * size → outcomeOfThere there.Short ≡ reads (parse (checkCount n size) s at)
   unfolding parse
   count-short h = rw (lt-leb _ _ h)
 

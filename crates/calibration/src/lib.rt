@@ -7,7 +7,7 @@ ghost use Rattle.lists.specs.Left.{pairsIfFit, LeftPairs};
 ghost use Rattle.lists.specs.Written.{each, over};
 ghost use Rattle.parser.specs.Parser.{f32At};
 ghost use Rattle.calibration.specs.Convert.{series, freqToMz, chunkPairs};
-ghost use Rattle.calibration.specs.Internal.{layoutOf, mzBy, chunkBins, mzOn};
+ghost use Rattle.calibration.specs.Internal.{conversionOf, mzBy, chunkBins, mzOn};
 use float_bits::f64_of_bits;
 use float_bits::widened;
 use lists::holds;
@@ -23,7 +23,7 @@ pub struct Bins {
 }
 
 // What the number of coefficients says, with A, B and C. It is worked out once for all bins of a chunk.
-enum Layout {
+enum Conversion {
     // What is stored is m/z already (ion trap).
     None,
     // LTQ-FT and ICR.
@@ -41,22 +41,22 @@ struct ChunkBins {
     fudge: f64,
 }
 
-fn layout_of(coefficients: &[u64]) -> Layout
-    ensures { λ r. ⌜ r ≡ layoutOf (now (coefficients .entry)) ⌝ }
+fn conversion_of(coefficients: &[u64]) -> Conversion
+    ensures { λ r. ⌜ r ≡ conversionOf (now (coefficients .entry)) ⌝ }
 {
     match coefficients.len() {
-        0 => Layout::None,
-        4 => Layout::Frequency(
+        0 => Conversion::None,
+        4 => Conversion::Frequency(
             f64_of_bits(coefficients[1]),
             f64_of_bits(coefficients[2]),
             f64_of_bits(coefficients[3]),
         ),
-        5 | 7 => Layout::SquaredFrequency(
+        5 | 7 => Conversion::SquaredFrequency(
             f64_of_bits(coefficients[2]),
             f64_of_bits(coefficients[3]),
             f64_of_bits(coefficients[4]),
         ),
-        _ => Layout::Unknown,
+        _ => Conversion::Unknown,
     }
 }
 
@@ -67,17 +67,17 @@ fn series_at(a: f64, b: f64, c: f64, g: f64) -> f64
     a + b / g + c / (g * g)
 }
 
-fn mz_by(layout: Layout, freq: f64) -> f64
-    ensures { λ r. ⌜ r ≡ mzBy layout freq ⌝ }
+fn mz_by(conversion: Conversion, freq: f64) -> f64
+    ensures { λ r. ⌜ r ≡ mzBy conversion freq ⌝ }
 {
     if freq == 0.0 {
         return 0.0;
     }
-    match layout {
-        Layout::None => freq,
-        Layout::Frequency(a, b, c) => series_at(a, b, c, freq),
-        Layout::SquaredFrequency(a, b, c) => series_at(a, b, c, freq * freq),
-        Layout::Unknown => 0.0 / 0.0,
+    match conversion {
+        Conversion::None => freq,
+        Conversion::Frequency(a, b, c) => series_at(a, b, c, freq),
+        Conversion::SquaredFrequency(a, b, c) => series_at(a, b, c, freq * freq),
+        Conversion::Unknown => 0.0 / 0.0,
     }
 }
 
@@ -85,7 +85,7 @@ fn mz_by(layout: Layout, freq: f64) -> f64
 pub fn freq_to_mz(freq: f64, coefficients: &[u64]) -> f64
     ensures { λ r. ⌜ r ≡ freqToMz freq (now (coefficients .entry)) ⌝ }
 {
-    mz_by(layout_of(coefficients), freq)
+    mz_by(conversion_of(coefficients), freq)
 }
 
 fn chunk_bins(bins: Bins, first_bin: u32, fudge: u32) -> ChunkBins
@@ -101,13 +101,13 @@ fn chunk_bins(bins: Bins, first_bin: u32, fudge: u32) -> ChunkBins
 }
 
 // The m/z of a chunk's i-th bin. The fudge corrects the m/z, not the frequency.
-fn bin_to_mz(bins: ChunkBins, layout: Layout, i: u64) -> f64
-    ensures { λ r. ⌜ r ≡ mzOn bins layout i ⌝ }
+fn bin_to_mz(bins: ChunkBins, conversion: Conversion, i: u64) -> f64
+    ensures { λ r. ⌜ r ≡ mzOn bins conversion i ⌝ }
 {
     let fudge = bins.fudge;
     let index = std::num::nearest_u64_to_f64(i);
     let freq = bins.first_value + (bins.first_bin + index) * bins.step;
-    mz_by(layout, freq) + fudge
+    mz_by(conversion, freq) + fudge
 }
 
 // The pairs, where both slices hold them.
@@ -116,20 +116,20 @@ fn write_pairs(
     at: u64,
     n: u64,
     bins: ChunkBins,
-    layout: Layout,
+    conversion: Conversion,
     mz: &mut [f64],
     intensity: &mut [f64],
 )
     requires { ⌜ n ≤ length (now mz) ⌝ }
     requires { ⌜ n ≤ length (now intensity) ⌝ }
-    ensures { λ _. ⌜ now (mz .exit) ≡ over (each (mzOn bins layout) n) (now (mz .entry)) ⌝ }
+    ensures { λ _. ⌜ now (mz .exit) ≡ over (each (mzOn bins conversion) n) (now (mz .entry)) ⌝ }
     ensures { λ _. ⌜ now (intensity .exit) ≡ over (each (λ k. f32At (now (run .entry)) (at + k * 4)) n) (now (intensity .entry)) ⌝ }
 {
     let count = n as usize;
     let mut place = at;
     let mut i: usize = 0;
     while i < count {
-        mz[i] = bin_to_mz(bins, layout, i as u64);
+        mz[i] = bin_to_mz(bins, conversion, i as u64);
         intensity[i] = widened(u32_at(run, place));
         place = saturating_add(place, 4);
         i = i + 1;
@@ -157,7 +157,7 @@ pub fn write_chunk(
             at,
             n,
             chunk_bins(bins, first_bin, fudge),
-            layout_of(coefficients),
+            conversion_of(coefficients),
             mz,
             intensity,
         );

@@ -9,7 +9,7 @@ use Rattle.parser.specs.Call.{single}
 use Rattle.lists.specs.Left.{lengths, LeftLists}
 use Rattle.parser.specs.LongerBytes.{OnLongerBytes, PrefixProperty, Names, Completes}
 use Rattle.parser.proofs.Completion.{Bounded, bounded-more}
-use Rattle.parser.specs.Parser.{Parser, bytes, littleEndian, left}
+use Rattle.parser.specs.Parser.{Parser, bytes, littleEndian, remaining}
 use Rattle.parser.proofs.Calls.{NotTruncated, not-truncated-cond, prefix-property, only-part, single-completes}
 use Rattle.refusal.specs.Outcome.{Outcome, ok, refused, andThen}
 use Rattle.event_record.specs.Event.{eventIfFits, outcomeOf}
@@ -28,7 +28,7 @@ counted-bounded : (size : ℕ) → size < 2 ^ 32 → Bounded (2 ^ 62) (2 ^ 61) (
 counted-bounded size h = bounded-more (2 ^ 62) (2 ^ 39) (2 ^ 61) (one size) (lit≤ tt) (body-demand (λ _. size) (λ _. omega arith) .bounded)
 
 abbrev answered : List ℕ → ℕ → List ℕ × List ℕ → ℕ → Outcome (ScanEvent × List (List ℕ))
-answered capacities at parts next = andThen (judgeBody (at + 136) (parts .0) (parts .1)) (λ lists. eventIfFits capacities (eventIn (parts .0) (parts .1) lists) next)
+answered capacities at v next = andThen (judgeBody (at + 136) (v .0) (v .1)) (λ lists. eventIfFits capacities (eventIn (v .0) (v .1) lists) next)
 
 pub counted-prefix : (size : ℕ) (capacities : List ℕ) (at : ℕ) → PrefixProperty (readCounted size capacities at)
 unfolding readCounted
@@ -38,14 +38,14 @@ body-not-truncated : (start : ℕ) (preamble body : List ℕ) → NotTruncated (
 unfolding judgeBody
 body-not-truncated start preamble body =
     let count = littleEndian (bytes body 0 4) in
-    not-truncated-cond (not (leb 4 (left body 0))) _ _ tt (then-not-truncated (judgeRecords start body (keptCount preamble count)) (ok (listsCounted preamble body count)) (records-not-truncated start body (keptCount preamble count)) tt)
+    not-truncated-cond (not (leb 4 (remaining body 0))) _ _ tt (then-not-truncated (judgeRecords start body (keptCount preamble count)) (ok (listsCounted preamble body count)) (records-not-truncated start body (keptCount preamble count)) tt)
 
 not-truncated-by : (o : Outcome Lists) (capacities preamble body : List ℕ) (next : ℕ) → NotTruncated o → NotTruncated (andThen o (λ lists. eventIfFits capacities (eventIn preamble body lists) next))
 not-truncated-by (ok lists) capacities preamble body next h = event-not-truncated capacities (eventIn preamble body lists) next
 not-truncated-by (refused n carries) capacities preamble body next h = h
 
-answered-not-truncated : (capacities : List ℕ) (at : ℕ) (parts : List ℕ × List ℕ) (next : ℕ) → NotTruncated (answered capacities at parts next)
-answered-not-truncated capacities at parts next = not-truncated-by (judgeBody (at + 136) (parts .0) (parts .1)) capacities (parts .0) (parts .1) next (body-not-truncated (at + 136) (parts .0) (parts .1))
+answered-not-truncated : (capacities : List ℕ) (at : ℕ) (v : List ℕ × List ℕ) (next : ℕ) → NotTruncated (answered capacities at v next)
+answered-not-truncated capacities at v next = not-truncated-by (judgeBody (at + 136) (v .0) (v .1)) capacities (v .0) (v .1) next (body-not-truncated (at + 136) (v .0) (v .1))
 
 pub counted-names : (size : ℕ) (capacities : List ℕ) (at : ℕ) → Names (λ q. q ≡ 3) (readCounted size capacities at)
 unfolding readCounted

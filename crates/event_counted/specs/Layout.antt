@@ -4,7 +4,7 @@ use mathlib.Core.Bool.{not, cond}
 use mathlib.Core.List.{List, [], _∷_}
 use lib.Dec.{leb}
 use Rattle.refusal.specs.Outcome.{Outcome, ok, refused, andThen}
-use Rattle.parser.specs.Parser.{left, wordAt}
+use Rattle.parser.specs.Parser.{remaining, wordAt}
 use Rattle.parser.specs.Call.{outcome, single}
 use Rattle.event_preamble.specs.Settings.{isPrimary}
 use Rattle.event_window.specs.Window.{firstWindow}
@@ -23,9 +23,9 @@ recordAt i = 4 + i * 56
 -- what is wrong with record i of a body that starts at `start` of the run: 4 at the precursor, 3, 4 at the energy
 abbrev pub judgeRecord : ℕ → List ℕ → ℕ → Outcome (Unit {0})
 judgeRecord start body i =
-    cond (not (leb 8 (left body (recordAt i)))) (refused 4 [])
+    cond (not (leb 8 (remaining body (recordAt i)))) (refused 4 [])
     (cond (not (acceptable (wordAt body (recordAt i) 8))) (refused 3 ((start + recordAt i) ∷ wordAt body (recordAt i) 8 ∷ []))
-    (cond (not (leb 8 (left body (recordAt i + 16)))) (refused 4 []) (ok tt)))
+    (cond (not (leb 8 (remaining body (recordAt i + 16)))) (refused 4 []) (ok tt)))
 
 -- the first n records, one after the other
 unfoldable pub judgeRecords : ℕ → List ℕ → ℕ → Outcome (Unit {0})
@@ -38,23 +38,23 @@ keptCount preamble count = cond (isPrimary preamble) 0 count
 
 unfoldable pub listsCounted : List ℕ → List ℕ → ℕ → Lists
 listsCounted preamble body count =
-    let place = count * 56 + 8 in
+    let offset = count * 56 + 8 in
     record {
       reactions = Every 4 56 (keptCount preamble count);
-      «coefficients_at» = place + 20;
-      coefficients = coefficientCount body (place + 16);
-      window = firstWindow body (place ∷ []);
+      «coefficients_at» = offset + 20;
+      coefficients = coefficientCount body (offset + 16);
+      window = firstWindow body (offset ∷ []);
     }
 
 -- the lists of a body that starts at `start`, or what is wrong with it
 unfoldable pub judgeBody : ℕ → List ℕ → List ℕ → Outcome Lists
 judgeBody start preamble body =
     let count = wordAt body 0 4 in
-    cond (not (leb 4 (left body 0))) (refused 4 [])
+    cond (not (leb 4 (remaining body 0))) (refused 4 [])
     (andThen (judgeRecords start body (keptCount preamble count)) (λ _. ok (listsCounted preamble body count)))
 
 -- what `read_counted_v66` answers
 unfoldable pub readCounted : ℕ → List ℕ → ℕ → List ℕ → Outcome (ScanEvent × List (List ℕ))
 readCounted size capacities at run =
-    outcome (single 3 at (preambleAndBody (λ _. size)) (λ parts next.
-    andThen (judgeBody (at + 136) (parts .0) (parts .1)) (λ lists. eventIfFits capacities (eventIn (parts .0) (parts .1) lists) next))) run
+    outcome (single 3 at (preambleAndBody (λ _. size)) (λ v next.
+    andThen (judgeBody (at + 136) (v .0) (v .1)) (λ lists. eventIfFits capacities (eventIn (v .0) (v .1) lists) next))) run

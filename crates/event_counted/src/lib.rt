@@ -24,13 +24,13 @@ use refusal::Part;
 use refusal::Refusal;
 
 // What was found of the reaction records.
-enum Records {
+enum RecordsAnswer {
     Sound,
     Refused(Refusal),
 }
 
 // Record i of a body that starts at `start` of the run.
-fn judge_record(start: u64, body: &[u8], i: u64) -> Records
+fn judge_record(start: u64, body: &[u8], i: u64) -> RecordsAnswer
     requires { ⌜ (start < 2 ^ 63 + 2 ^ 32) × (i < 2 ^ 32) ⌝ }
     ensures { λ r. ⌜ outcomeOfRecords r ≡ judgeRecord start (now (body .entry)) i ⌝ }
 {
@@ -39,31 +39,31 @@ fn judge_record(start: u64, body: &[u8], i: u64) -> Records
         let bits = u64_at(body, off);
         if acceptable(bits) {
             if 8 <= remaining(body, off + 16) {
-                return Records::Sound;
+                return RecordsAnswer::Sound;
             }
-            return Records::Refused(Refusal::BodyTooShort);
+            return RecordsAnswer::Refused(Refusal::BodyTooShort);
         }
-        return Records::Refused(Refusal::InvalidPrecursorMz {
+        return RecordsAnswer::Refused(Refusal::InvalidPrecursorMz {
             place: start + off,
             bits,
         });
     }
-    Records::Refused(Refusal::BodyTooShort)
+    RecordsAnswer::Refused(Refusal::BodyTooShort)
 }
 
 // The first n records. The loop ends at the first that is wrong or passes the body, whatever count is stored.
-fn judge_records(start: u64, body: &[u8], n: u64) -> Records
+fn judge_records(start: u64, body: &[u8], n: u64) -> RecordsAnswer
     requires { ⌜ (start < 2 ^ 63 + 2 ^ 32) × (n < 2 ^ 32) ⌝ }
     ensures { λ r. ⌜ outcomeOfRecords r ≡ judgeRecords start (now (body .entry)) n ⌝ }
 {
     let mut i: u64 = 0;
     while i < n {
-        if let Records::Refused(r) = judge_record(start, body, i) {
-            return Records::Refused(r);
+        if let RecordsAnswer::Refused(r) = judge_record(start, body, i) {
+            return RecordsAnswer::Refused(r);
         }
         i = i + 1;
     }
-    Records::Sound
+    RecordsAnswer::Sound
 }
 
 // A primary event's records are neither judged nor kept.
@@ -81,7 +81,7 @@ fn lists_of(bytes: &[u8], body: &[u8], count: u64) -> Lists
     requires { ⌜ count < 2 ^ 32 ⌝ }
     ensures { λ r. ⌜ r ≡ listsCounted (now (bytes .entry)) (now (body .entry)) count ⌝ }
 {
-    let place = count * 56 + 8;
+    let offset = count * 56 + 8;
     let reactions = Source::Every {
         from: 4,
         stride: 56,
@@ -89,9 +89,9 @@ fn lists_of(bytes: &[u8], body: &[u8], count: u64) -> Lists
     };
     Lists {
         reactions,
-        coefficients_at: place + 20,
-        coefficients: coefficient_count(body, place + 16),
-        window: plausible_window(body, place),
+        coefficients_at: offset + 20,
+        coefficients: coefficient_count(body, offset + 16),
+        window: plausible_window(body, offset),
     }
 }
 
@@ -108,10 +108,10 @@ fn judge_body(start: u64, bytes: &[u8], body: &[u8]) -> BodyAnswer
     if 4 <= remaining(body, 0) {
         let count = u32_at(body, 0) as u64;
         match judge_records(start, body, kept_count(bytes, count)) {
-            Records::Refused(r) => {
+            RecordsAnswer::Refused(r) => {
                 return BodyAnswer::Refused(r);
             }
-            Records::Sound => {
+            RecordsAnswer::Sound => {
                 return BodyAnswer::Holds(lists_of(bytes, body, count));
             }
         }

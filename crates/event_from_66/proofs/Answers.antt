@@ -8,7 +8,7 @@ use lib.Dec.{eqb}
 use lib.ListN.{length}
 use borrow.Author.Tests.{lt-leb}
 use Rattle.refusal.specs.Outcome.{Outcome, ok, ranOut}
-use Rattle.parser.specs.Parser.{short, parse, bytes, left}
+use Rattle.parser.specs.Parser.{short, parse, bytes, remaining}
 use Rattle.parser.specs.Call.{outcome, single}
 use Rattle.parser.proofs.Answered.{made-part}
 use Rattle.event_preamble.specs.Settings.{isPrimary}
@@ -27,32 +27,32 @@ module _ (primary dependent : ℕ) where
   from66-holds = body-holds (bodySize primary dependent) (λ preamble body. listsFrom66 preamble body (isTribrid primary dependent preamble))
 
   module _ (s : List ℕ) (at : ℕ) where
-    pub parse-short-preamble : left s at < 136 → parse (from66 primary dependent) s at ≡ short
+    pub parse-short-preamble : remaining s at < 136 → parse (from66 primary dependent) s at ≡ short
     unfolding from66 preambleAndBody parse
     parse-short-preamble t = rw (lt-leb _ _ t)
 
     abbrev described : List ℕ × List ℕ → Event × Lists
-    described parts = withLists (parts .0) (parts .1) (listsFrom66 (parts .0) (parts .1) (isTribrid primary dependent (parts .0)))
+    described v = withLists (v .0) (v .1) (listsFrom66 (v .0) (v .1) (isTribrid primary dependent (v .0)))
 
     abbrev answers : List ℕ × List ℕ → ℕ → Outcome Places
-    answers parts next = ok (placesOf at (described parts) next)
+    answers v next = ok (placesOf at (described v) next)
 
     by-parts : outcome (single 3 at (preambleAndBody (bodySize primary dependent)) answers) s ≡ findBy (from66 primary dependent) at s
     unfolding findBy from66
     by-parts = sym (made-part 3 at (preambleAndBody (bodySize primary dependent)) described (λ v next. ok (placesOf at v next)) answers (λ _ _. refl) s)
 
-    pub short-preamble : left s at < 136 → ranOut 3 ≡ findBy (from66 primary dependent) at s
+    pub short-preamble : remaining s at < 136 → ranOut 3 ≡ findBy (from66 primary dependent) at s
     short-preamble t = no-preamble (bodySize primary dependent) answers s at t ∙ by-parts
 
-    module _ (t : 136 ≤ left s at) {preamble : List ℕ} {size : ℕ} (hp : preamble ≡ bytes s at 136) {isP : Bool} (hq : isP ≡ isPrimary preamble) (hs : size ≡ cond isP primary dependent) where
+    module _ (t : 136 ≤ remaining s at) {preamble : List ℕ} {size : ℕ} (hp : preamble ≡ bytes s at 136) {isP : Bool} (hq : isP ≡ isPrimary preamble) (hs : size ≡ cond isP primary dependent) where
       size-is : size ≡ bodySize primary dependent preamble
       size-is = rw (← hq) hs
 
-      pub short-body : left s (at + 136) < size → ranOut 3 ≡ findBy (from66 primary dependent) at s
+      pub short-body : remaining s (at + 136) < size → ranOut 3 ≡ findBy (from66 primary dependent) at s
       short-body u = no-body (bodySize primary dependent) answers s at t hp size-is u ∙ by-parts
 
       -- the places that are answered, from what the code has in hand
-      pub found : {body : List ℕ} {isT : Bool} {lists : Lists} → body ≡ bytes s (at + 136) size → isT ≡ (not (eqb primary dependent) && not isP) → size ≤ left s (at + 136)
+      pub found : {body : List ℕ} {isT : Bool} {lists : Lists} → body ≡ bytes s (at + 136) size → isT ≡ (not (eqb primary dependent) && not isP) → size ≤ remaining s (at + 136)
           → lists ≡ listsFrom66 preamble body isT
           → outcomeOfPlaces (At (record { preamble = at; «preamble_len» = 136; body = at + 136; «body_len» = size; lists = lists; next = at + 136 + size })) ≡ findBy (from66 primary dependent) at s
       unfolding eventIn

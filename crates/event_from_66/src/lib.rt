@@ -7,7 +7,7 @@ ghost use Rattle.event_reactions.specs.declared.Source.the-variants.{Every, Sou
 ghost use Rattle.event_record.specs.Places.{findBy, outcomeOfPlaces};
 ghost use Rattle.event_from_66.specs.Layout.{sought, listsFrom66, from66};
 use event_coefficients::coefficient_count;
-use event_coefficients::word_place;
+use event_coefficients::word_offset;
 use event_preamble::is_primary;
 use event_reactions::Source;
 use event_record::Lists;
@@ -37,7 +37,7 @@ fn lists_of(bytes: &[u8], body: &[u8], tribrid: bool) -> Lists
     ensures { λ r. ⌜ r ≡ listsFrom66 (now (bytes .entry)) (now (body .entry)) tribrid ⌝ }
 {
     let window = find_window(body, tribrid);
-    let word = word_place(window.offset, body.len() as u64, is_primary(bytes));
+    let word = word_offset(window.offset, body.len() as u64, is_primary(bytes));
     Lists {
         reactions: reactions_of(bytes, tribrid),
         coefficients_at: word + 4,

@@ -13,12 +13,12 @@ use Rattle.lists.proofs.Laws.{each-same, map-each}
 use Rattle.lists.proofs.Cases.{leb-cases}
 use Rattle.parser.specs.Parser.{bytes, littleEndian}
 use Rattle.reader.proofs.Words.{le-shifted}
-use Rattle.event_reactions.specs.Reactions.{Reaction, reactionAt, kept, largest, records, hasUncounted, uncounted, orIfEmpty, reactionsIn, inSource}
+use Rattle.event_reactions.specs.Reactions.{Reaction, reactionAt, kept, largest, recordCount, hasUncounted, uncounted, orIfEmpty, reactionsIn, inSource}
 use Rattle.event_reactions.specs.declared.Source.the-variants.{Every}
 
 -- the records that are read lie within the body
-pub records-fit : (body : List ℕ) (at from : ℕ) → records body at from * 32 ≤ length body
-unfolding records
+pub records-fit : (body : List ℕ) (at from : ℕ) → recordCount body at from * 32 ≤ length body
+unfolding recordCount
 records-fit body at from =
     ⊎-elim (λ e. rw e (omega arith)) (λ e. rw e (omega arith)) (leb-cases (littleEndian (bytes body at 4)) (largest body from))
 
@@ -49,11 +49,11 @@ by-ways w f g = ⊎-elim f g w
 
 -- n records are read
 module _ (body : List ℕ) (h : 8 ≤ length body) {tribrid : Bool} {n : ℕ} where
-  pub of-tribrid : tribrid ≡ true → n ≡ records body 0 4 → reactionsIn tribrid body ≡ kept body 4 n
+  pub of-tribrid : tribrid ≡ true → n ≡ recordCount body 0 4 → reactionsIn tribrid body ≡ kept body 4 n
   unfolding reactionsIn
   of-tribrid t e = rw (t, e, le-leb _ _ h)
 
-  module _ (t : tribrid ≡ false) (e : n ≡ records body 4 8) where
+  module _ (t : tribrid ≡ false) (e : n ≡ recordCount body 4 8) where
     pub of-counted : (length (kept body 8 n) ≡ 0 → ⊥) → reactionsIn tribrid body ≡ kept body 8 n
     unfolding reactionsIn
     of-counted some = rw (t, le-leb _ _ h, ← e) (or-if-empty-some _ _ some)

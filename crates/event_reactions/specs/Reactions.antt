@@ -17,7 +17,7 @@ use Rattle.event_reactions.specs.declared.Source.the-variants.{Every, So
 abbrev pub Reaction : Type 0
 Reaction = ℕ × ℕ
 
--- the reaction whose record stands at a place: precursor at 0, energy at 16
+-- the reaction whose record stands at an offset: precursor at 0, energy at 16
 abbrev pub reactionAt : List ℕ → ℕ → Reaction
 reactionAt body at = (wordAt body at 8, wordAt body (at + 16) 8)
 
@@ -34,8 +34,8 @@ abbrev pub largest : List ℕ → ℕ → ℕ
 largest body from = max ((length body - (from + 32)) / 32) 1
 
 -- how many records are read: none if the stored count is zero or above the largest, and none that passes the body
-unfoldable pub records : List ℕ → ℕ → ℕ → ℕ
-records body countAt from =
+unfoldable pub recordCount : List ℕ → ℕ → ℕ → ℕ
+recordCount body countAt from =
     cond (leb (wordAt body countAt 4) (largest body from)) (min (wordAt body countAt 4) ((length body - from) / 32)) 0
 
 -- a precursor without a count word before it: between 0 and 50,000, both excluded
@@ -56,8 +56,8 @@ orIfEmpty (r ∷ rs) rest = r ∷ rs
 -- a tribrid's dependent events have the count at 0 and the records from 4 on; others have them at 4 and 8, and where none
 -- was found the uncounted record
 unfoldable pub reactionsIn : Bool → List ℕ → List Reaction
-reactionsIn true body = cond (leb 8 (length body)) (kept body 4 (records body 0 4)) []
-reactionsIn false body = cond (leb 8 (length body)) (orIfEmpty (kept body 8 (records body 4 8)) (uncounted body)) []
+reactionsIn true body = cond (leb 8 (length body)) (kept body 4 (recordCount body 0 4)) []
+reactionsIn false body = cond (leb 8 (length body)) (orIfEmpty (kept body 8 (recordCount body 4 8)) (uncounted body)) []
 
 -- the reactions of a body, by where they stand
 unfoldable pub inSource : List ℕ → Source → List Reaction

@@ -5,7 +5,7 @@ ghost use Prim.Native.Nat.{_*_, _≤_, max};
 ghost use lib.ListN.{length};
 ghost use Rattle.lists.specs.Left.{firsts, seconds, pairsIfFit, LeftPairs};
 ghost use Rattle.lists.specs.Written.{over, fitting};
-ghost use Rattle.event_reactions.specs.Reactions.{acceptable, kept, records, plausiblePrecursor, hasUncounted, reactionsIn, inSource};
+ghost use Rattle.event_reactions.specs.Reactions.{acceptable, kept, recordCount, plausiblePrecursor, hasUncounted, reactionsIn, inSource};
 use float_bits::f64_of_bits;
 use float_bits::is_finite64;
 use lists::holds;
@@ -20,7 +20,7 @@ use refusal::Refusal;
 
 // Where the reactions of an event stand in its body.
 pub enum Source {
-    // So many records from a place on, none of which is left out: the precursor at 0, the energy at 16.
+    // So many records from an offset on, none of which is left out: the precursor at 0, the energy at 16.
     Every { from: u64, stride: u64, count: u64 },
     // In a body of version 66, where they have to be looked for.
     Sought { tribrid: bool },
@@ -55,9 +55,9 @@ fn larger(a: u64, b: u64) -> u64
 }
 
 // How many records are read. A stored count above the largest gives none.
-fn records(body: &[u8], at: u64, from: u64) -> u64
+fn record_count(body: &[u8], at: u64, from: u64) -> u64
     requires { ⌜ from ≤ 8 ⌝ }
-    ensures { λ r. ⌜ r ≡ records (now (body .entry)) at from ⌝ }
+    ensures { λ r. ⌜ r ≡ recordCount (now (body .entry)) at from ⌝ }
 {
     let stored = u32_at(body, at) as u64;
     let largest = larger(remaining(body, from + 32) / 32, 1);
@@ -96,12 +96,12 @@ fn write_kept(body: &[u8], from: u64, n: u64, precursors: &mut [u64], energies: 
     let mut count: u64 = 0;
     let mut i: u64 = 0;
     while i < n {
-        let place = from + i * 32;
-        let precursor = u64_at(body, place);
+        let offset = from + i * 32;
+        let precursor = u64_at(body, offset);
         if acceptable(precursor) {
             let k = count as usize;
             precursors[k] = precursor;
-            energies[k] = u64_at(body, place + 16);
+            energies[k] = u64_at(body, offset + 16);
             count = count + 1;
         }
         i = i + 1;
@@ -117,9 +117,9 @@ fn count_sought(body: &[u8], tribrid: bool) -> u64
         return 0;
     }
     if tribrid {
-        return count_kept(body, 4, records(body, 0, 4));
+        return count_kept(body, 4, record_count(body, 0, 4));
     }
-    let count = count_kept(body, 8, records(body, 4, 8));
+    let count = count_kept(body, 8, record_count(body, 4, 8));
     if count == 0 && has_uncounted(body) {
         1
     } else {
@@ -138,10 +138,10 @@ fn write_sought(body: &[u8], tribrid: bool, precursors: &mut [u64], energies: &m
         return;
     }
     if tribrid {
-        write_kept(body, 4, records(body, 0, 4), precursors, energies);
+        write_kept(body, 4, record_count(body, 0, 4), precursors, energies);
         return;
     }
-    let count = write_kept(body, 8, records(body, 4, 8), precursors, energies);
+    let count = write_kept(body, 8, record_count(body, 4, 8), precursors, energies);
     if count == 0 && has_uncounted(body) {
         copy_u64s(body, 4, 32, 1, precursors);
         copy_u64s(body, 20, 32, 1, energies);

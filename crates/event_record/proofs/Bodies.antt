@@ -6,7 +6,7 @@ use mathlib.Core.List.{List}
 use lib.Dec.{leb}
 use borrow.Author.Tests.{leb-true, le-leb, lt-leb}
 use Rattle.refusal.specs.Outcome.{Outcome, ranOut}
-use Rattle.parser.specs.Parser.{done, parse, bytes, left, _>>=_}
+use Rattle.parser.specs.Parser.{done, parse, bytes, remaining, _>>=_}
 use Rattle.parser.specs.Call.{outcome, single}
 use Rattle.parser.proofs.Prefix.{within-parsed}
 use Rattle.parser.proofs.Completion.{zeros, invariant-any}
@@ -16,36 +16,36 @@ use Rattle.event_record.specs.declared.Lists.{Lists}
 use Rattle.event_record.proofs.Holding.{Holds, there}
 
 module _ {A : Type 0} (size : List ℕ → ℕ) (f : List ℕ × List ℕ → ℕ → Outcome A) (s : List ℕ) (at : ℕ) where
-  pub no-preamble : left s at < 136 → ranOut 3 ≡ outcome (single 3 at (preambleAndBody size) f) s
+  pub no-preamble : remaining s at < 136 → ranOut 3 ≡ outcome (single 3 at (preambleAndBody size) f) s
   unfolding outcome preambleAndBody parse
   no-preamble t = rw (lt-leb _ _ t)
 
-  module _ (t : 136 ≤ left s at) {preamble : List ℕ} {n : ℕ} (hp : preamble ≡ bytes s at 136) (hn : n ≡ size preamble) where
+  module _ (t : 136 ≤ remaining s at) {preamble : List ℕ} {n : ℕ} (hp : preamble ≡ bytes s at 136) (hn : n ≡ size preamble) where
     size-is : n ≡ size (bytes s at 136)
     size-is = rw (← hp) hn
 
-    pub no-body : left s (at + 136) < n → ranOut 3 ≡ outcome (single 3 at (preambleAndBody size) f) s
+    pub no-body : remaining s (at + 136) < n → ranOut 3 ≡ outcome (single 3 at (preambleAndBody size) f) s
     unfolding outcome preambleAndBody parse
     no-body u = rw (le-leb _ _ t, ← size-is, lt-leb _ _ u)
 
-    pub both-there : n ≤ left s (at + 136) → {body : List ℕ} → body ≡ bytes s (at + 136) n → f (preamble, body) (at + 136 + n) ≡ outcome (single 3 at (preambleAndBody size) f) s
+    pub both-there : n ≤ remaining s (at + 136) → {body : List ℕ} → body ≡ bytes s (at + 136) n → f (preamble, body) (at + 136 + n) ≡ outcome (single 3 at (preambleAndBody size) f) s
     unfolding outcome preambleAndBody parse
     both-there u hb = rw (le-leb _ _ t, ← size-is, le-leb _ _ u, hp, hb)
 
 -- their places give the event back
-pub again : (s : List ℕ) (at n : ℕ) (lists : Lists) → 136 ≤ left s at
+pub again : (s : List ℕ) (at n : ℕ) (lists : Lists) → 136 ≤ remaining s at
     → let v = withLists (bytes s at 136) (bytes s (at + 136) n) lists in eventAt s (placesOf at v (at + 136 + n)) ≡ v .0
 unfolding eventIn
 again s at n lists t = let e : at + 136 + n - (at + 136) ≡ n = omega arith in rw (there s at 136 t, e)
 
 -- a layout of both, whose lists are found in the body
 module _ (size : List ℕ → ℕ) (lists : List ℕ → List ℕ → Lists) where
-  pub body-holds : Holds (preambleAndBody size >>= λ parts. done (withLists (parts .0) (parts .1) (lists (parts .0) (parts .1))))
+  pub body-holds : Holds (preambleAndBody size >>= λ v. done (withLists (v .0) (v .1) (lists (v .0) (v .1))))
   unfolding preambleAndBody parse
   body-holds s at v next h =
-      let w = within-parsed (leb 136 (left s at)) _ h in
+      let w = within-parsed (leb 136 (remaining s at)) _ h in
       let preamble = bytes s at 136 in
-      let x = within-parsed (leb (size preamble) (left s (at + 136))) _ (w .1) in
+      let x = within-parsed (leb (size preamble) (remaining s (at + 136))) _ (w .1) in
       let body = bytes s (at + 136) (size preamble) in
       let is : withLists preamble body (lists preamble body) ≡ v = cc (x .1) in
       let ends : at + 136 + size preamble ≡ next = cc (x .1) in

@@ -1,4 +1,4 @@
--- The window at one place, and the search, candidate by candidate.
+-- The window at one offset, and the search, candidate by candidate.
 use mathlib.Core.Path.{_≡_, refl, sym, _∙_}
 use mathlib.Core.Logic.{⊎-elim}
 use mathlib.Core.Bool.{true, false}
@@ -8,19 +8,19 @@ use mathlib.Core.List.{List, [], _∷_, _++_}
 use lib.Ieee.{Float, binary64, ofBits}
 use borrow.Author.Tests.{le-leb, lt-leb}
 use Rattle.lists.proofs.Cases.{bool-cases}
-use Rattle.parser.specs.Parser.{left, f64At, wordAt}
+use Rattle.parser.specs.Parser.{remaining, f64At, wordAt}
 use Rattle.event_window.specs.Window.{plausibleEnds, windowOf, hasWindow, noWindow, firstWindow}
 use Rattle.event_window.specs.Internal.{firstOf}
 use Rattle.event_window.specs.declared.Window.{Window}
 use Rattle.event_window.specs.declared.Window.the-variants.{Absent, Ends}
 
 module _ (body : List ℕ) (off : ℕ) where
-  pub too-few : left body off < 16 → noWindow ≡ firstWindow body (off ∷ [])
+  pub too-few : remaining body off < 16 → noWindow ≡ firstWindow body (off ∷ [])
   unfolding firstWindow
   too-few t = rw (lt-leb _ _ t)
 
   -- 16 bytes stand there: w is the window that their ends make
-  module _ (t : 16 ≤ left body off) {lo hi : ℕ} (el : lo ≡ wordAt body off 8) (eh : hi ≡ wordAt body (off + 8) 8) {w : Window} (ew : w ≡ windowOf (ofBits binary64 lo) (ofBits binary64 hi)) where
+  module _ (t : 16 ≤ remaining body off) {lo hi : ℕ} (el : lo ≡ wordAt body off 8) (eh : hi ≡ wordAt body (off + 8) 8) {w : Window} (ew : w ≡ windowOf (ofBits binary64 lo) (ofBits binary64 hi)) where
     same : w ≡ windowOf (f64At body off) (f64At body (off + 8))
     same = rw (← el, ← eh) ew
 

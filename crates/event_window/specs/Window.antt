@@ -7,7 +7,7 @@ use lib.Ieee.Scale.{finite}
 use lib.Dec.{leb}
 use Rattle.float_bits.specs.Numbers.{ratio, largestMass}
 use Rattle.lists.specs.Filter.{filter, firstOr}
-use Rattle.parser.specs.Parser.{left, f64At, wordAt}
+use Rattle.parser.specs.Parser.{remaining, f64At, wordAt}
 use Rattle.event_window.specs.declared.Window.{Window}
 use Rattle.event_window.specs.declared.Window.the-variants.{Absent, Ends}
 use Rattle.event_window.specs.declared.FoundWindow.{FoundWindow}
@@ -22,9 +22,9 @@ plausibleEnds low high = finite low && finite high && le lowest low && le low hi
 abbrev pub windowOf : Float → Float → Window
 windowOf low high = cond (plausibleEnds low high) (Ends low high) Absent
 
--- whether a window stands at a place: 16 bytes, and their ends are plausible
+-- whether a window stands at an offset: 16 bytes, and their ends are plausible
 abbrev pub hasWindow : List ℕ → ℕ → Bool
-hasWindow body off = leb 16 (left body off) && plausibleEnds (f64At body off) (f64At body (off + 8))
+hasWindow body off = leb 16 (remaining body off) && plausibleEnds (f64At body off) (f64At body (off + 8))
 
 -- the window there, its ends as floats and as bits
 abbrev pub windowAt : List ℕ → ℕ → FoundWindow
@@ -33,9 +33,9 @@ windowAt body off = record { window = Ends (f64At body off) (f64At body (off + 8
 abbrev pub noWindow : FoundWindow
 noWindow = record { window = Absent; low = 0; high = 0; offset = 0 }
 
--- the window at the first of these places that has one
+-- the window at the first of these offsets that has one
 unfoldable pub firstWindow : List ℕ → List ℕ → FoundWindow
-firstWindow body places = firstOr noWindow (map (windowAt body) (filter (hasWindow body) places))
+firstWindow body offsets = firstOr noWindow (map (windowAt body) (filter (hasWindow body) offsets))
 
 -- the candidates in a body of this size; differences stop at 0
 abbrev pub candidates : Bool → ℕ → List ℕ

@@ -16,7 +16,7 @@ pub enum Window {
     Ends(f64, f64),
 }
 
-// A window, the bits of its ends, and its place in the body; 0 where it is absent.
+// A window, the bits of its ends, and its offset in the body; 0 where it is absent.
 pub struct FoundWindow {
     pub window: Window,
     pub low: u64,
@@ -35,7 +35,7 @@ pub fn window_of(low: f64, high: f64) -> Window
     }
 }
 
-// The window at a place of the body.
+// The window at an offset in the body.
 pub fn plausible_window(body: &[u8], off: u64) -> FoundWindow
     ensures { λ r. ⌜ r ≡ firstWindow (now (body .entry)) (off ∷ []) ⌝ }
 {
@@ -60,7 +60,7 @@ pub fn plausible_window(body: &[u8], off: u64) -> FoundWindow
     }
 }
 
-// The window that was found, else the one at this place. A candidate after a window is not looked at.
+// The window that was found, else the one at this offset. A candidate after a window is not looked at.
 fn or_at(found: FoundWindow, body: &[u8], off: u64) -> FoundWindow
     ensures { λ r. ⌜ r ≡ firstOf found (firstWindow (now (body .entry)) (off ∷ [])) ⌝ }
 {

@@ -45,7 +45,7 @@ fn write_lists(
 }
 
 // The event of a preamble and a body, where the slices hold it.
-fn write_parts(
+fn write_if_fits(
     bytes: &[u8],
     body: &[u8],
     j: Lists,
@@ -120,7 +120,7 @@ pub fn write_event(
     let start = within(run, p.body);
     let end = within(run, saturating_add(p.body, p.body_len));
     let lists = p.lists;
-    write_parts(
+    write_if_fits(
         &run[from..middle],
         &run[start..end],
         lists,

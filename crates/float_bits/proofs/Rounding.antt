@@ -65,8 +65,8 @@ module _ (n d : ℕ) (D : 0 < d) where
       let D2 : 0 < d * 2 = omega arith in
       let two : d * 2 ≡ d + d = omega arith in
       let double : q * (d * 2) ≡ q * d + q * d = ap (λ (k : ℕ). q * k) two ∙ mul-add q d d in
-      let parts : n * 2 + d ≡ r * 2 + d + q * (d * 2) = omega (arith, mod-add-div' n d) in
-      rw (parts, add-mul-div-right (r * 2 + d) q D2)
+      let both : n * 2 + d ≡ r * 2 + d + q * (d * 2) = omega (arith, mod-add-div' n d) in
+      rw (both, add-mul-div-right (r * 2 + d) q D2)
       (⊎-elim
       (λ (h : r * 2 < d).
       let none : (r * 2 + d) / (d * 2) ≡ 0 = div-eq-of-lt (omega arith) in

@@ -9,7 +9,7 @@ use lib.ListN.{length, take, drop, set, length-append, length-set, length-map, l
 use Rattle.lists.specs.Written.{each, over, fitting}
 use Rattle.lists.specs.Left.{overAll}
 use Rattle.lists.proofs.Laws.{length-each, length-over, over-none, over-tail, store-at, fitting-all}
-use Rattle.parser.specs.Parser.{parsed, bytes, littleEndian, left, parse, repeat}
+use Rattle.parser.specs.Parser.{parsed, bytes, littleEndian, remaining, parse, repeat}
 use Rattle.parser.specs.Walk.{sum}
 use Rattle.parser.proofs.Walk.{FirstOf, first-of}
 use Rattle.packet_profile.specs.Profile.{headSize, Chunk, points, chunk, fudgeAt}
@@ -100,10 +100,10 @@ module _ {count : ℕ} {fudged : Bool} {s : List ℕ} {all : List Chunk} {b c f 
       this : Whole fudged s at n e (first .first) (first .next)
       this = whole-chunk fudged s at n e (first .here)
 
-      pub head-there : headSize fudged ≤ left s at
+      pub head-there : headSize fudged ≤ remaining s at
       head-there = this .head-there
 
-      pub values-there : n * 4 ≤ left s (at + headSize fudged)
+      pub values-there : n * 4 ≤ remaining s (at + headSize fudged)
       values-there = this .values-there
 
       long : points (first .first) ≡ n

@@ -3,7 +3,7 @@ use mathlib.Core.Path.{_≡_, ap, _∙_}
 use Prim.Native.Nat.{ℕ, _+_, _≤_, _<_}
 use mathlib.Core.List.{List}
 use Rattle.refusal.specs.Outcome.{ok, refused, ranOut}
-use Rattle.parser.specs.Parser.{short, parsed, left, parse}
+use Rattle.parser.specs.Parser.{short, parsed, remaining, parse}
 use Rattle.parser.specs.Internal.{Sized, value}
 use Rattle.parser.proofs.Records.{record-short, record-whole, sized-read}
 use Rattle.parser.proofs.Answered.{found, ran-out}
@@ -15,16 +15,16 @@ unfolding header
 header-sized = λ _ _ _ _ _ _ _ _ _ _. tt
 
 module _ (s : List ℕ) (at : ℕ) where
-  pub header-short : left s at < 40 → ranOut 4 ≡ readHeader at s
+  pub header-short : remaining s at < 40 → ranOut 4 ≡ readHeader at s
   unfolding readHeader
   header-short = record-short 4 at header (λ h _. ok h) 40 header-sized s
 
-  pub header-whole : 40 ≤ left s at → {h : PacketHeader} → h ≡ value header s at 0 → ok h ≡ readHeader at s
+  pub header-whole : 40 ≤ remaining s at → {h : PacketHeader} → h ≡ value header s at 0 → ok h ≡ readHeader at s
   unfolding readHeader
   header-whole t e = record-whole 4 at header (λ h _. ok h) 40 header-sized s t (ap ok e)
 
   -- a header that was read stands there
-  pub header-read : {h : PacketHeader} → ok h ≡ readHeader at s → (40 ≤ left s at) × (parse header s at ≡ parsed h (at + 40))
+  pub header-read : {h : PacketHeader} → ok h ≡ readHeader at s → (40 ≤ remaining s at) × (parse header s at ≡ parsed h (at + 40))
   unfolding readHeader
   header-read {h} e =
       let f = found 4 at header (λ (v : PacketHeader) _. v) s e in

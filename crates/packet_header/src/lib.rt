@@ -1,7 +1,7 @@
 // The header of a scan data packet (`PacketHeader` of scan_data.rs). Sizes count words of four bytes.
 ghost use mathlib.Core.Path.{_≡_};
 ghost use Prim.Native.Nat.{_≤_};
-ghost use Rattle.parser.specs.Parser.{left};
+ghost use Rattle.parser.specs.Parser.{remaining};
 ghost use Rattle.parser.specs.Internal.{value};
 ghost use Rattle.packet_header.specs.Header.{header, readHeader, outcomeOf};
 use reader::remaining;
@@ -28,7 +28,7 @@ pub enum HeaderAnswer {
 
 // The fields of a header whose bytes are there.
 fn fields(run: &[u8], at: u64) -> PacketHeader
-    requires { ⌜ 40 ≤ left (now run) at ⌝ }
+    requires { ⌜ 40 ≤ remaining (now run) at ⌝ }
     ensures { λ r. ⌜ r ≡ value header (now (run .entry)) at 0 ⌝ }
 {
     PacketHeader {

@@ -9,7 +9,7 @@ use borrow.Author.Tests.{le-leb, lt-leb}
 use Rattle.refusal.specs.Outcome.{ok, refused, ranOut}
 use Rattle.lists.specs.Written.{each}
 use Rattle.lists.proofs.Laws.{length-each}
-use Rattle.parser.specs.Parser.{Parser, done, parsed, within, parse, bytes, wordAt, left, _>>=_}
+use Rattle.parser.specs.Parser.{Parser, done, parsed, within, parse, bytes, wordAt, remaining, _>>=_}
 use Rattle.parser.specs.Call.{outcome}
 use Rattle.parser.specs.Internal.{Sized, value}
 use Rattle.parser.proofs.Prefix.{within-parsed}
@@ -83,10 +83,10 @@ module _ (h : PacketHeader) (n : ℕ) where
           third,
         )
 
-    parse-labels : parse (labels h n) s at ≡ within (leb (total h) (left s at)) (parsed streams (at + total h))
+    parse-labels : parse (labels h n) s at ≡ within (leb (total h) (remaining s at)) (parsed streams (at + total h))
     parse-labels = parse-sized (total h) (labels h n) labels-sized s at ∙ rw labels-value
 
-    pub labels-short : left s at < total h → ranOut 4 ≡ readLabels h n at s
+    pub labels-short : remaining s at < total h → ranOut 4 ≡ readLabels h n at s
     unfolding readLabels outcome
     labels-short t = rw (parse-labels, lt-leb _ _ t)
 
@@ -109,7 +109,7 @@ module _ (h : PacketHeader) (n : ℕ) where
         let rs : length resolutionsAt ≡ wordCount n 1 (h .«unknown_stream_size») = length-each _ (wordCount n 1 (h .«unknown_stream_size»)) in
         rw (ds, rs)
 
-    pub labels-whole : total h ≤ left s at → ok (labelsAt, streamsAt s labelsAt) ≡ readLabels h n at s
+    pub labels-whole : total h ≤ remaining s at → ok (labelsAt, streamsAt s labelsAt) ≡ readLabels h n at s
     unfolding readLabels outcome
     labels-whole t = rw (parse-labels, le-leb _ _ t, labels-are)
 
@@ -119,7 +119,7 @@ module _ (h : PacketHeader) (n : ℕ) where
     unfolding readLabels
     labelled {l} {k} e =
         let f = found 4 at (labels h n) (λ k _. (labelPlaces h at k, k)) s e in
-        let w = within-parsed (leb (total h) (left s at)) _ (sym parse-labels ∙ f .there) in
+        let w = within-parsed (leb (total h) (remaining s at)) _ (sym parse-labels ∙ f .there) in
         let v : f .value ≡ streams = cc (w .1) in
         let m : f .next ≡ at + total h = cc (w .1) in
         let made : l ≡ labelPlaces h at (f .value) = ap (λ (p : Labels × Streams). p .0) (f .made) in

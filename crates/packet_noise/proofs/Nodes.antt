@@ -10,14 +10,14 @@ use lib.Seq.{take-all, take-nil}
 use Rattle.refusal.specs.Outcome.{Outcome, ok, onOk}
 use Rattle.refusal.proofs.Outcomes.{made-of}
 use Rattle.lists.proofs.Cases.{le-or-lt}
-use Rattle.parser.specs.Parser.{bytes, left}
+use Rattle.parser.specs.Parser.{bytes, remaining}
 use Rattle.noise.specs.Nodes.{nodesOf}
 use Rattle.noise.specs.Line.{noiseAt}
 use Rattle.packet_record.specs.Packet.{nodesAt, withNodes}
 use Rattle.packet_record.specs.declared.ScanDataPacket.{ScanDataPacket}
 use Rattle.packet_record.specs.declared.PacketAnswer.the-variants as answer
 
-pub bytes-length : (s : List ℕ) (at n : ℕ) → length (bytes s at n) ≡ min n (left s at)
+pub bytes-length : (s : List ℕ) (at n : ℕ) → length (bytes s at n) ≡ min n (remaining s at)
 bytes-length s at n = simp (length-take, length-drop)
 
 take-taken : (k : ℕ) (xs : List ℕ) → take (length (take k xs)) xs ≡ take k xs

@@ -10,7 +10,7 @@ use lib.ListN.{length}
 use borrow.Author.Tests.{le-leb, lt-leb, eq-eqb, ne-eqb, eqb-true}
 use Rattle.refusal.specs.Outcome.{ok, ranOut}
 use Rattle.lists.proofs.Laws.{each-none, each-same}
-use Rattle.parser.specs.Parser.{parsed, bytes, littleEndian, left, within, Parser, parse, word, counted, _>>=_}
+use Rattle.parser.specs.Parser.{parsed, bytes, littleEndian, remaining, within, Parser, parse, word, counted, _>>=_}
 use Rattle.parser.specs.Call.{outcome}
 use Rattle.parser.specs.Internal.{Sized, value}
 use Rattle.lists.proofs.Cases.{bool-cases}
@@ -47,13 +47,13 @@ module _ (wide : Bool) (s : List ℕ) where
       ∙ each-same _ _ n (λ i. ap (value (peak wide) s at) (zero-add (i * itemSize wide)) ∙ peak-value wide s at (i * itemSize wide))
 
   parse-peaks : (n at : ℕ)
-      → parse (peaks wide n) s at ≡ within (leb (n * itemSize wide) (left s at)) (parsed (peaksAt wide (itemSize wide) s at n) (at + n * itemSize wide))
+      → parse (peaks wide n) s at ≡ within (leb (n * itemSize wide) (remaining s at)) (parsed (peaksAt wide (itemSize wide) s at n) (at + n * itemSize wide))
   parse-peaks n at = parse-sized (n * itemSize wide) (peaks wide n) (peaks-sized wide n) s at ∙ rw (peaks-value n at)
 
   -- the count word, and the peaks
   parse-list : (n at : ℕ) → n ≡ littleEndian (bytes s at 4)
       → parse (word 4 >>= peaks wide) s at
-      ≡ within (leb 4 (left s at)) (within (leb (n * itemSize wide) (left s (at + 4))) (parsed (peaksAt wide (itemSize wide) s (at + 4) n) (at + 4 + n * itemSize wide)))
+      ≡ within (leb 4 (remaining s at)) (within (leb (n * itemSize wide) (remaining s (at + 4))) (parsed (peaksAt wide (itemSize wide) s (at + 4) n) (at + 4 + n * itemSize wide)))
   parse-list n at e =
       let place : at + 0 ≡ at = add-zero at in
       parse-stage 4 (word 4) (peaks wide) (sized-word 4) s at ∙ rw (place, ← e, parse-peaks n (at + 4))
@@ -69,16 +69,16 @@ module _ (h : PacketHeader) (s : List ℕ) (at : ℕ) (wide : Bool) (w : wide �
   no-list e = rw (parse-none e, ← w, length-peaks wide (itemSize wide) s at 0, eq-eqb (h .«peak_list_size») 0 e, add-zero at, zero-mul (itemSize wide), add-zero at)
 
   module _ (some : h .«peak_list_size» ≡ 0 → ⊥) where
-    pub short-count : left s at < 4 → ranOut 4 ≡ readPeaks h at s
+    pub short-count : remaining s at < 4 → ranOut 4 ≡ readPeaks h at s
     unfolding readPeaks outcome peakList
     short-count t = rw (ne-eqb (h .«peak_list_size») 0 some, parse-list (isWide (h .layout)) s (littleEndian (bytes s at 4)) at refl, lt-leb _ _ t)
 
-    module _ (t : 4 ≤ left s at) (n : ℕ) (e : n ≡ littleEndian (bytes s at 4)) where
-      pub short-peaks : left s (at + 4) < n * itemSize wide → ranOut 4 ≡ readPeaks h at s
+    module _ (t : 4 ≤ remaining s at) (n : ℕ) (e : n ≡ littleEndian (bytes s at 4)) where
+      pub short-peaks : remaining s (at + 4) < n * itemSize wide → ranOut 4 ≡ readPeaks h at s
       unfolding readPeaks outcome peakList
       short-peaks u = rw (ne-eqb (h .«peak_list_size») 0 some, ← w, parse-list wide s n at e, le-leb _ _ t, lt-leb _ _ u)
 
-      pub whole-list : n * itemSize wide ≤ left s (at + 4)
+      pub whole-list : n * itemSize wide ≤ remaining s (at + 4)
           → ok (record { at = at + 4; count = n; wide = wide; next = at + 4 + n * itemSize wide }) ≡ readPeaks h at s
       unfolding readPeaks outcome peakList
       whole-list u =
@@ -103,8 +103,8 @@ listed h s at {peaks} {next} e =
     record { stand = a ∙ rw (t, size, add-zero at); end = b ∙ rw (t, size, zero-mul z, add-zero at, add-zero at) })
     (λ (t : eqb (h .«peak_list_size») 0 ≡ false).
     let n = littleEndian (bytes s at 4) in
-    let o = within-parsed (leb 4 (left s at)) _ (sym (parse-list wide s n at refl) ∙ rw t at e) in
-    let i = within-parsed (leb (n * z) (left s (at + 4))) _ (o .1) in
+    let o = within-parsed (leb 4 (remaining s at)) _ (sym (parse-list wide s n at refl) ∙ rw t at e) in
+    let i = within-parsed (leb (n * z) (remaining s (at + 4))) _ (o .1) in
     let a : peaks ≡ peaksAt wide z s (at + 4) n = cc (i .1) in
     let b : next ≡ at + 4 + n * z = cc (i .1) in
     let size : length peaks ≡ n = ap length a ∙ length-peaks wide z s (at + 4) n in

@@ -5,10 +5,10 @@ use mathlib.Core.List.{List}
 use lib.Dec.{leb}
 use borrow.Author.Tests.{le-leb, lt-leb}
 use Rattle.refusal.specs.Outcome.{ok, refused, ranOut}
-use Rattle.parser.specs.Parser.{Parser, parsed, done, left, parse, skip, _>>=_, _>>_}
+use Rattle.parser.specs.Parser.{Parser, parsed, done, remaining, parse, skip, _>>=_, _>>_}
 use Rattle.parser.specs.Call.{outcome}
 use Rattle.parser.proofs.Fixed.{parse-sized}
-use Rattle.parser.proofs.Prefix.{within-parsed, parse-bind, parts}
+use Rattle.parser.proofs.Prefix.{within-parsed, parse-bind, bind-parsed}
 use Rattle.parser.proofs.Answered.{found, ran-out}
 use Rattle.packet_header.specs.Header.{header, readHeader}
 use Rattle.packet_header.specs.declared.PacketHeader.{PacketHeader}
@@ -41,11 +41,11 @@ module _ (s : List ℕ) (at : ℕ) where
     unfolding skipping rest
     to-rest = parse-bind header rest s at ∙ rw (header-read s at e .1)
 
-    pub skip-profile-short : left s (at + 40) < h .«profile_size» * 4 → ranOut 4 ≡ skipToPeaks at s
+    pub skip-profile-short : remaining s (at + 40) < h .«profile_size» * 4 → ranOut 4 ≡ skipToPeaks at s
     unfolding skipToPeaks outcome rest parse
     skip-profile-short t = rw (to-rest, lt-leb _ _ t)
 
-    module _ (t : h .«profile_size» * 4 ≤ left s (at + 40)) where
+    module _ (t : h .«profile_size» * 4 ≤ remaining s (at + 40)) where
       to-list : parse skipping s at ≡ parse (peakList h >>= paired h) s (at + 40 + h .«profile_size» * 4)
       unfolding rest parse
       to-list = to-rest ∙ rw (le-leb _ _ t)
@@ -74,12 +74,12 @@ pub skipped-of : (s : List ℕ) (at : ℕ) {p : HeaderAndPeaks} → ok p ≡ ski
 unfolding skipToPeaks skipping rest parse
 skipped-of s at {p} e =
     let f = found 4 at skipping (answered at) s e in
-    let h = parts header rest s at (f .there) in
-    let head = within-parsed (leb 40 (left s at)) _ (sym (parse-sized 40 header header-sized s at) ∙ h .here) in
+    let h = bind-parsed header rest s at (f .there) in
+    let head = within-parsed (leb 40 (remaining s at)) _ (sym (parse-sized 40 header header-sized s at) ∙ h .here) in
     let size = h .first .«profile_size» * 4 in
-    let r = parts (skip size) (λ _. peakList (h .first) >>= paired (h .first)) s (h .middle) (h .there) in
-    let passed = within-parsed (leb size (left s (h .middle))) _ (r .here) in
-    let l = parts (peakList (h .first)) (paired (h .first)) s (r .middle) (r .there) in
+    let r = bind-parsed (skip size) (λ _. peakList (h .first) >>= paired (h .first)) s (h .middle) (h .there) in
+    let passed = within-parsed (leb size (remaining s (h .middle))) _ (r .here) in
+    let l = bind-parsed (peakList (h .first)) (paired (h .first)) s (r .middle) (r .there) in
     let v : f .value ≡ (h .first, l .first) = cc (l .there) in
     let n : f .next ≡ l .middle = cc (l .there) in
     let m : h .middle ≡ at + 40 = cc (head .1) in

@@ -17,7 +17,7 @@ use Rattle.packet_peak_list.proofs.LongerBytes.{peak-list-demand}
 use Rattle.packet_labels.proofs.LongerBytes as labels
 use Rattle.packet_profile.specs.Profile.{profile}
 use Rattle.packet_profile.proofs.LongerBytes.{profile-demand}
-use Rattle.packet_record.specs.Packet.{absent, present, afterPeaks, contentsAt, outcomeOfPlaces}
+use Rattle.packet_record.specs.Packet.{absent, present, afterPeaks, contentsAt, outcomeOfPacketPlaces}
 use Rattle.packet_record.proofs.LongerBytes.{after-demand}
 use Rattle.packet_record.proofs.OneAnswer.{places-answer-one}
 use Rattle.packet_places.specs.Packet.{optionalProfile, packet}
@@ -62,5 +62,5 @@ module _ (at : ℕ) where
   unfolding findPlaces
   places-completes = single-completes 4 at packet (λ p _. ok (packetPlaces at p, p .contents)) packet-bounded (λ _ _. tt)
 
-  pub places-longer : OnLongerBytes outcomeOfPlaces (λ s r (_ : Unit {0}). onOk (λ v. (v, contentsAt s v)) (outcomeOfPlaces r) ≡ findPlaces at s) (λ q. q ≡ 4) (λ _ _. at < 2 ^ 62)
-  places-longer = labels.standing-longer outcomeOfPlaces places-answer-one contentsAt (findPlaces at) places-prefix 4 at places-names places-completes
+  pub places-longer : OnLongerBytes outcomeOfPacketPlaces (λ s r (_ : Unit {0}). onOk (λ v. (v, contentsAt s v)) (outcomeOfPacketPlaces r) ≡ findPlaces at s) (λ q. q ≡ 4) (λ _ _. at < 2 ^ 62)
+  places-longer = labels.standing-longer outcomeOfPacketPlaces places-answer-one contentsAt (findPlaces at) places-prefix 4 at places-names places-completes

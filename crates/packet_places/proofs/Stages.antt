@@ -10,7 +10,7 @@ use borrow.Author.Tests.{eq-eqb, ne-eqb}
 use Rattle.refusal.specs.Outcome.{Outcome, ok, refused}
 use Rattle.parser.specs.Parser.{Parser, done, parsed, parse, _>>=_}
 use Rattle.parser.specs.Call.{outcome}
-use Rattle.parser.proofs.Prefix.{parse-bind, parts}
+use Rattle.parser.proofs.Prefix.{parse-bind, bind-parsed}
 use Rattle.parser.proofs.Answered.{found, RanOut, ran-out}
 use Rattle.packet_header.specs.Header.{header, readHeader}
 use Rattle.packet_header.specs.declared.PacketHeader.{PacketHeader}
@@ -72,7 +72,7 @@ by-test : (h : PacketHeader) (s : List ℕ) (place : ℕ) (p : Axis × List Chun
 unfolding keep parse
 by-test h s place p next true e = let c : _≡_ {A = ℕ} 0 1 = cc in absurd (omega arith)
 by-test h s place p next false e =
-    let w = parts (profile (h .layout)) keep s place e in
+    let w = bind-parsed (profile (h .layout)) keep s place e in
     let a : w .first ≡ p = cc (w .there) in
     let n : w .middle ≡ next = cc (w .there) in
     w .here ∙ rw (a, n)
@@ -87,7 +87,7 @@ absent-end : (h : PacketHeader) (s : List ℕ) (place next : ℕ) (b : Bool)
 unfolding keep parse
 absent-end h s place next true e = cc
 absent-end h s place next false e =
-    let w = parts (profile (h .layout)) keep s place e in
+    let w = bind-parsed (profile (h .layout)) keep s place e in
     let c : present (w .first) ≡ absent = cc (w .there) in
     let z : _≡_ {A = ℕ} 0 1 = cc in
     absurd (omega arith)

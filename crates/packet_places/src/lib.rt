@@ -2,10 +2,10 @@
 // handed out.
 ghost use mathlib.Core.Path.{_≡_};
 ghost use Prim.Native.Nat.{_≤_};
-ghost use Rattle.parser.specs.Parser.{left};
+ghost use Rattle.parser.specs.Parser.{remaining};
 ghost use Rattle.refusal.specs.Outcome.{onOk};
 ghost use Rattle.packet_labels.specs.Labels.{streamsAt};
-ghost use Rattle.packet_record.specs.Packet.{contentsAt, outcomeOfPlaces};
+ghost use Rattle.packet_record.specs.Packet.{contentsAt, outcomeOfPacketPlaces};
 ghost use Rattle.packet_places.specs.Places.{findPlaces};
 ghost use Rattle.packet_places.specs.Internal.{findProfile, outcomeOfProfile, afterHeader};
 use packet_header::HeaderAnswer;
@@ -27,7 +27,7 @@ enum FoundProfile {
 
 // The profile of the packet at a place, whose header is there.
 fn find_profile(run: &[u8], at: u64, h: PacketHeader) -> FoundProfile
-    requires { ⌜ 40 ≤ left (now run) at ⌝ }
+    requires { ⌜ 40 ≤ remaining (now run) at ⌝ }
     ensures { λ r. ⌜ outcomeOfProfile r ≡ findProfile h at (now (run .entry)) ⌝ }
 {
     if h.profile_size == 0 {
@@ -40,8 +40,8 @@ fn find_profile(run: &[u8], at: u64, h: PacketHeader) -> FoundProfile
 }
 
 fn after_header(run: &[u8], at: u64, h: PacketHeader) -> PacketPlacesAnswer
-    requires { ⌜ 40 ≤ left (now run) at ⌝ }
-    ensures { λ r. ⌜ onOk (λ v. (v, streamsAt (now (run .entry)) (v .labels))) (outcomeOfPlaces r) ≡ afterHeader h at (now (run .entry)) ⌝ }
+    requires { ⌜ 40 ≤ remaining (now run) at ⌝ }
+    ensures { λ r. ⌜ onOk (λ v. (v, streamsAt (now (run .entry)) (v .labels))) (outcomeOfPacketPlaces r) ≡ afterHeader h at (now (run .entry)) ⌝ }
 {
     match find_profile(run, at, h) {
         FoundProfile::Refused(r) => PacketPlacesAnswer::Refused(r),
@@ -54,7 +54,7 @@ fn after_header(run: &[u8], at: u64, h: PacketHeader) -> PacketPlacesAnswer
 
 // Where the parts of the packet at a place of the run stand.
 pub fn find_places(run: &[u8], at: u64) -> PacketPlacesAnswer
-    ensures { λ r. ⌜ onOk (λ v. (v, contentsAt (now (run .entry)) v)) (outcomeOfPlaces r) ≡ findPlaces at (now (run .entry)) ⌝ }
+    ensures { λ r. ⌜ onOk (λ v. (v, contentsAt (now (run .entry)) v)) (outcomeOfPacketPlaces r) ≡ findPlaces at (now (run .entry)) ⌝ }
 {
     match PacketHeader::read(run, at) {
         HeaderAnswer::Refused(r) => PacketPlacesAnswer::Refused(r),

@@ -8,11 +8,11 @@ use mathlib.Core.List.{List}
 use lib.Dec.{leb}
 use borrow.Author.Tests.{le-leb, lt-leb}
 use Rattle.refusal.specs.Outcome.{ok, refused, ranOut}
-use Rattle.parser.specs.Parser.{Parser, Parsed, short, parsed, done, bytes, littleEndian, left, within, parse, repeat, counted, _>>=_}
+use Rattle.parser.specs.Parser.{Parser, Parsed, short, parsed, done, bytes, littleEndian, remaining, within, parse, repeat, counted, _>>=_}
 use Rattle.parser.specs.Walk.{sum}
 use Rattle.parser.specs.Call.{outcome}
 use Rattle.parser.specs.Internal.{Sized, value}
-use Rattle.parser.proofs.Prefix.{within-parsed, parse-bind, parts}
+use Rattle.parser.proofs.Prefix.{within-parsed, parse-bind, bind-parsed}
 use Rattle.parser.proofs.Fixed.{parse-sized, parse-stage}
 use Rattle.parser.proofs.Answered.{found, RanOut, ran-out}
 use Rattle.packet_profile.specs.Profile.{isFudged, Chunk, points, chunk, Axis, axis, profile, profileRecord, readProfile}
@@ -54,26 +54,26 @@ unlisted (parsed cs end) h = let c : _≡_ {A = ℕ} 0 1 = cc in absurd (omega a
 
 module _ (layout : ℕ) (s : List ℕ) (at : ℕ) where
   to-chunks : (count : ℕ) → count ≡ littleEndian (bytes s (at + 16) 4)
-      → parse (profile layout) s at ≡ within (leb 24 (left s at)) (parse (rest layout (axisAt s at count)) s (at + 24))
+      → parse (profile layout) s at ≡ within (leb 24 (remaining s at)) (parse (rest layout (axisAt s at count)) s (at + 24))
   unfolding profile rest paired axis
   to-chunks count e = let place : at + 0 ≡ at = add-zero at in parse-stage 24 axis (rest layout) axis-sized s at ∙ rw (place, ← e)
 
-  pub short-axis : left s at < 24 → ranOut 4 ≡ readProfile layout at s
+  pub short-axis : remaining s at < 24 → ranOut 4 ≡ readProfile layout at s
   unfolding readProfile outcome
   short-axis t = rw (to-chunks (littleEndian (bytes s (at + 16) 4)) refl, lt-leb _ _ t)
 
-  module _ (count : ℕ) (e : count ≡ littleEndian (bytes s (at + 16) 4)) (t : 24 ≤ left s at) where
+  module _ (count : ℕ) (e : count ≡ littleEndian (bytes s (at + 16) 4)) (t : 24 ≤ remaining s at) where
     list : Parsed (List Chunk)
     list = parse (repeat count (chunk (isFudged layout))) s (at + 24)
 
     to-list : parse (profile layout) s at ≡ parse (rest layout (axisAt s at count)) s (at + 24)
     to-list = to-chunks count e ∙ rw (le-leb _ _ t)
 
-    pub short-count : left s (at + 24) < count * 8 → ranOut 4 ≡ readProfile layout at s
+    pub short-count : remaining s (at + 24) < count * 8 → ranOut 4 ≡ readProfile layout at s
     unfolding readProfile outcome rest counted parse
     short-count u = rw (to-list, parse-bind (chunks (isFudged layout) count) (paired (axisAt s at count)) s (at + 24), lt-leb _ _ u)
 
-    module _ (u : count * 8 ≤ left s (at + 24)) where
+    module _ (u : count * 8 ≤ remaining s (at + 24)) where
       is-list : parse (chunks (isFudged layout) count) s (at + 24) ≡ list
       unfolding counted parse list
       is-list = rw (le-leb _ _ u)
@@ -115,10 +115,10 @@ pub profile-chunks : (layout : ℕ) (s : List ℕ) (at : ℕ) {p : Axis × List 
     → let v = profileRecord layout at p in parse (repeat (v .«peak_count») (chunk (v .fudged))) s (v .«chunks_at») ≡ parsed (p .1) next
 unfolding profile rest paired counted parse
 profile-chunks layout s at {p} {next} h =
-    let a = parts axis (rest layout) s at h in
-    let c = parts (chunks (isFudged layout) (a .first .peakCount)) (paired (a .first)) s (a .middle) (a .there) in
-    let w = within-parsed (leb 24 (left s at)) _ (sym (parse-sized 24 axis axis-sized s at) ∙ a .here) in
-    let i = within-parsed (leb (a .first .peakCount * 8) (left s (a .middle))) _ (c .here) in
+    let a = bind-parsed axis (rest layout) s at h in
+    let c = bind-parsed (chunks (isFudged layout) (a .first .peakCount)) (paired (a .first)) s (a .middle) (a .there) in
+    let w = within-parsed (leb 24 (remaining s at)) _ (sym (parse-sized 24 axis axis-sized s at) ∙ a .here) in
+    let i = within-parsed (leb (a .first .peakCount * 8) (remaining s (a .middle))) _ (c .here) in
     chunked-of layout s at p (a .first) (c .first) (a .middle) next (c .middle) (cc (c .there)) (cc (w .1)) (cc (c .there)) (i .1)
 
 -- a profile that was read

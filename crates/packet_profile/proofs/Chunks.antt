@@ -9,7 +9,7 @@ use lib.Dec.{leb}
 use borrow.Author.Tests.{le-leb, lt-leb, leb-true}
 use Rattle.lists.specs.Written.{each}
 use Rattle.lists.proofs.Laws.{each-same}
-use Rattle.parser.specs.Parser.{Parser, Parsed, short, parsed, done, bytes, littleEndian, left, within, parse, word, repeat, counted, _>>=_}
+use Rattle.parser.specs.Parser.{Parser, Parsed, short, parsed, done, bytes, littleEndian, remaining, within, parse, word, repeat, counted, _>>=_}
 use Rattle.parser.specs.Internal.{Sized, value}
 use Rattle.parser.proofs.Prefix.{within-parsed}
 use Rattle.parser.proofs.Fixed.{parse-stage, sized-word, sized-counted, value-each}
@@ -78,35 +78,35 @@ values-value n s at =
 
 module _ (fudged : Bool) (s : List ℕ) (at : ℕ) where
   parse-chunk : (n : ℕ) → n ≡ littleEndian (bytes s (at + 4) 4) → parse (chunk fudged) s at
-      ≡ within (leb (headSize fudged) (left s at)) (within (leb (n * 4) (left s (at + headSize fudged))) (parsed (chunkAt fudged s at n) (at + headSize fudged + n * 4)))
+      ≡ within (leb (headSize fudged) (remaining s at)) (within (leb (n * 4) (remaining s (at + headSize fudged))) (parsed (chunkAt fudged s at n) (at + headSize fudged + n * 4)))
   unfolding rest whole parse
   parse-chunk n e =
       let h : Head = record { firstBin = littleEndian (bytes s at 4); count = n; value = fudgeAt fudged s at } in
       ap (λ (q : Parser Chunk). parse q s at) (staged fudged) ∙ parse-stage (headSize fudged) (head fudged) rest (head-sized fudged) s at
       ∙ rw (head-value fudged s at, ← e, parse-stage (n * 4) (values n) (whole h) (values-sized n) s (at + headSize fudged), values-value n s (at + headSize fudged))
 
-  pub chunk-short-head : left s at < headSize fudged → parse (chunk fudged) s at ≡ short
+  pub chunk-short-head : remaining s at < headSize fudged → parse (chunk fudged) s at ≡ short
   chunk-short-head t = rw (parse-chunk (littleEndian (bytes s (at + 4) 4)) refl, lt-leb _ _ t)
 
   module _ (n : ℕ) (e : n ≡ littleEndian (bytes s (at + 4) 4)) where
-    module _ (t : headSize fudged ≤ left s at) where
-      pub chunk-short : left s (at + headSize fudged) < n * 4 → parse (chunk fudged) s at ≡ short
+    module _ (t : headSize fudged ≤ remaining s at) where
+      pub chunk-short : remaining s (at + headSize fudged) < n * 4 → parse (chunk fudged) s at ≡ short
       chunk-short u = rw (parse-chunk n e, le-leb _ _ t, lt-leb _ _ u)
 
-      pub chunk-parsed : n * 4 ≤ left s (at + headSize fudged) → parse (chunk fudged) s at ≡ parsed (chunkAt fudged s at n) (at + headSize fudged + n * 4)
+      pub chunk-parsed : n * 4 ≤ remaining s (at + headSize fudged) → parse (chunk fudged) s at ≡ parsed (chunkAt fudged s at n) (at + headSize fudged + n * 4)
       chunk-parsed u = rw (parse-chunk n e, le-leb _ _ t, le-leb _ _ u)
 
     -- a chunk that was parsed is there
     pub record Whole (c : Chunk) (next : ℕ) : Type 0 where
-      pub head-there : headSize fudged ≤ left s at
-      pub values-there : n * 4 ≤ left s (at + headSize fudged)
+      pub head-there : headSize fudged ≤ remaining s at
+      pub values-there : n * 4 ≤ remaining s (at + headSize fudged)
       pub is : c ≡ chunkAt fudged s at n
       pub end : next ≡ at + headSize fudged + n * 4
 
     pub whole-chunk : {c : Chunk} {next : ℕ} → parse (chunk fudged) s at ≡ parsed c next → Whole c next
     whole-chunk {c} {next} h =
-        let outer = within-parsed (leb (headSize fudged) (left s at)) _ (sym (parse-chunk n e) ∙ h) in
-        let inner = within-parsed (leb (n * 4) (left s (at + headSize fudged))) _ (outer .1) in
+        let outer = within-parsed (leb (headSize fudged) (remaining s at)) _ (sym (parse-chunk n e) ∙ h) in
+        let inner = within-parsed (leb (n * 4) (remaining s (at + headSize fudged))) _ (outer .1) in
         record { head-there = leb-true _ _ (outer .0); values-there = leb-true _ _ (inner .0); is = cc (inner .1); end = cc (inner .1) }
 
 -- turns of the loop over a list of chunks

@@ -20,24 +20,24 @@ use Rattle.packet_profile.proofs.Answers.{axis-sized, paired, profiled}
 use Rattle.packet_profile.proofs.Answers.{rest as beyond}
 
 -- counts that were read are below 2^32
-Counted : Head → Type 0
-Counted h = h .count < 256 ^ 4
+BoundedCount : Head → Type 0
+BoundedCount h = h .count < 256 ^ 4
 
-PeakCounted : Axis → Type 0
-PeakCounted a = a .peakCount < 256 ^ 4
+BoundedPeaks : Axis → Type 0
+BoundedPeaks a = a .peakCount < 256 ^ 4
 
 head-most : (fudged : Bool) → headSize fudged ≤ 12
 head-most true = lit≤ tt
 head-most false = lit≤ tt
 
-head-counted : (fudged : Bool) → ValueInvariant Counted (head fudged)
-unfolding head Counted
-head-counted true = λ _ _ _ bs l p _ _ _. invariant-word 4 bs l p
-head-counted false = λ _ _ _ bs l p. invariant-word 4 bs l p
+head-bounded : (fudged : Bool) → ValueInvariant BoundedCount (head fudged)
+unfolding head BoundedCount
+head-bounded true = λ _ _ _ bs l p _ _ _. invariant-word 4 bs l p
+head-bounded false = λ _ _ _ bs l p. invariant-word 4 bs l p
 
-axis-counted : ValueInvariant PeakCounted axis
-unfolding axis PeakCounted
-axis-counted = λ _ _ _ _ _ _ bs l p _ _ _. invariant-word 4 bs l p
+axis-bounded : ValueInvariant BoundedPeaks axis
+unfolding axis BoundedPeaks
+axis-bounded = λ _ _ _ _ _ _ bs l p _ _ _. invariant-word 4 bs l p
 
 -- a chunk of zeros is a head alone
 chunk-zeros : (fudged : Bool) → extent (chunk fudged) ≤ 12
@@ -46,8 +46,8 @@ chunk-zeros true = lit≤ tt
 chunk-zeros false = lit≤ tt
 
 module _ (far : ℕ) where
-  rest-demand : (h : Head) → Counted h → DemandBound far (2 ^ 34) Any (rest h)
-  unfolding rest whole Counted
+  rest-demand : (h : Head) → BoundedCount h → DemandBound far (2 ^ 34) Any (rest h)
+  unfolding rest whole BoundedCount
   rest-demand h c =
       demand-bind far (2 ^ 34) 0 Any Any (whole h) (λ _ _. demand-done far 0 Any _ tt) (values (h .count))
       (demand-more far (h .count * 4) (2 ^ 34) (values (h .count)) Any (omega arith) (demand-sized far (h .count * 4) (values (h .count)) (values-sized (h .count))))
@@ -55,9 +55,9 @@ module _ (far : ℕ) where
   chunk-demand : (fudged : Bool) → DemandBound far (12 + 2 ^ 34) Any (chunk fudged)
   chunk-demand fudged =
       rw staged
-      (demand-bind far 12 (2 ^ 34) Counted Any rest rest-demand (head fudged)
-      (demand-more far (headSize fudged) 12 (head fudged) Counted (head-most fudged)
-      (demand-known far (headSize fudged) (head fudged) Any Counted (demand-sized far (headSize fudged) (head fudged) (head-sized fudged)) (head-counted fudged))))
+      (demand-bind far 12 (2 ^ 34) BoundedCount Any rest rest-demand (head fudged)
+      (demand-more far (headSize fudged) 12 (head fudged) BoundedCount (head-most fudged)
+      (demand-known far (headSize fudged) (head fudged) Any BoundedCount (demand-sized far (headSize fudged) (head fudged) (head-sized fudged)) (head-bounded fudged))))
 
   -- so up to 2^32 - 1 chunks of up to 2^32 - 1 values ask for fewer than 2^37 bytes after the end
   chunks-demand : (fudged : Bool) (n : ℕ) → n < 256 ^ 4 → DemandBound far (2 ^ 37) Any (chunks fudged n)
@@ -66,15 +66,15 @@ module _ (far : ℕ) where
       demand-ahead far (2 ^ 37) (n * 8) Any (repeat n (chunk fudged)) (omega arith)
       (demand-more far (12 + 2 ^ 34 + n * 12) (2 ^ 37) (repeat n (chunk fudged)) Any (omega arith) (demand-repeat far (12 + 2 ^ 34) 12 n (chunk fudged) Any (chunk-demand fudged) (chunk-zeros fudged)))
 
-  after-demand : (layout : ℕ) (a : Axis) → PeakCounted a → DemandBound far (2 ^ 37) Any (beyond layout a)
-  unfolding beyond paired PeakCounted
+  after-demand : (layout : ℕ) (a : Axis) → BoundedPeaks a → DemandBound far (2 ^ 37) Any (beyond layout a)
+  unfolding beyond paired BoundedPeaks
   after-demand layout a c =
       demand-bind far (2 ^ 37) 0 Any Any (paired a) (λ _ _. demand-done far 0 Any _ tt) (chunks (isFudged layout) (a .peakCount)) (chunks-demand (isFudged layout) (a .peakCount) c)
 
   pub profile-demand : (layout : ℕ) → DemandBound far (24 + 2 ^ 37) Any (profile layout)
   unfolding profile beyond paired
   profile-demand layout =
-      demand-bind far 24 (2 ^ 37) PeakCounted Any (beyond layout) (after-demand layout) axis (demand-known far 24 axis Any PeakCounted (demand-sized far 24 axis axis-sized) axis-counted)
+      demand-bind far 24 (2 ^ 37) BoundedPeaks Any (beyond layout) (after-demand layout) axis (demand-known far 24 axis Any BoundedPeaks (demand-sized far 24 axis axis-sized) axis-bounded)
 
 -- demand 3
 module _ (layout at : ℕ) where

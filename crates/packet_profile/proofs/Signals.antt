@@ -5,7 +5,7 @@ use mathlib.Core.Bool.{Bool}
 use mathlib.Core.List.{List}
 use Rattle.refusal.specs.Outcome.{ok, refused, ranOut}
 use Rattle.lists.proofs.Laws.{length-each}
-use Rattle.parser.specs.Parser.{short, parsed, bytes, littleEndian, left, parse}
+use Rattle.parser.specs.Parser.{short, parsed, bytes, littleEndian, remaining, parse}
 use Rattle.parser.specs.Call.{outcome}
 use Rattle.parser.proofs.Answered.{found, ran-out}
 use Rattle.packet_profile.specs.Profile.{headSize, Chunk, points, chunk, findSignal}
@@ -16,16 +16,16 @@ pub points-at : (fudged : Bool) (s : List ℕ) (at n : ℕ) → points (chunkAt 
 points-at fudged s at n = length-each _ n
 
 module _ (fudged : Bool) (s : List ℕ) (at : ℕ) where
-  pub no-head : left s at < headSize fudged → ranOut 4 ≡ findSignal fudged at s
+  pub no-head : remaining s at < headSize fudged → ranOut 4 ≡ findSignal fudged at s
   unfolding findSignal outcome
   no-head t = rw (chunk-short-head fudged s at t)
 
-  module _ (n : ℕ) (e : n ≡ littleEndian (bytes s (at + 4) 4)) (t : headSize fudged ≤ left s at) where
-    pub no-signal : left s (at + headSize fudged) < n * 4 → ranOut 4 ≡ findSignal fudged at s
+  module _ (n : ℕ) (e : n ≡ littleEndian (bytes s (at + 4) 4)) (t : headSize fudged ≤ remaining s at) where
+    pub no-signal : remaining s (at + headSize fudged) < n * 4 → ranOut 4 ≡ findSignal fudged at s
     unfolding findSignal outcome
     no-signal u = rw (chunk-short fudged s at n e t u)
 
-    pub signal-there : n * 4 ≤ left s (at + headSize fudged)
+    pub signal-there : n * 4 ≤ remaining s (at + headSize fudged)
         → ok (record { at = at + headSize fudged; points = n; next = at + headSize fudged + n * 4 }) ≡ findSignal fudged at s
     unfolding findSignal outcome
     signal-there u = rw (chunk-parsed fudged s at n e t u, points-at fudged s at n)

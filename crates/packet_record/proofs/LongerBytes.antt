@@ -17,7 +17,7 @@ use Rattle.packet_peak_list.specs.declared.PeakList.{PeakList}
 use Rattle.packet_labels.specs.Labels.{Streams, labels, streamsAt, readLabels}
 use Rattle.packet_labels.specs.declared.Labels.{Labels}
 use Rattle.packet_labels.proofs.LongerBytes.{answer-alone, longer-from, standing-longer, labels-demand, labels-prefix, labels-names, labels-completes}
-use Rattle.packet_record.specs.Packet.{OptionalProfile, Contents, afterPeaks, withLabels, outcomeOfPlaces, recordOf, listsOf, packetIfFits, outcomeOf, nodesAt, withNodes}
+use Rattle.packet_record.specs.Packet.{OptionalProfile, Contents, afterPeaks, withLabels, outcomeOfPacketPlaces, recordOf, listsOf, packetIfFits, outcomeOf, nodesAt, withNodes}
 use Rattle.packet_record.specs.declared.PacketProfile.{PacketProfile}
 use Rattle.packet_record.specs.declared.PacketPlaces.{PacketPlaces}
 use Rattle.packet_record.specs.declared.ScanDataPacket.{ScanDataPacket}
@@ -46,10 +46,10 @@ module _ (h : PacketHeader) (profile : PacketProfile) (list : PeakList) where
     unfolding withLabels with
     with-labels-completes = on-ok-completes with (readLabels h (list .count) (list .next)) 4 (list .next) (labels-completes h (list .count) (list .next) size)
 
-    pub with-labels-longer : OnLongerBytes outcomeOfPlaces (λ s r (_ : Unit {0}). onOk (λ v. (v, streamsAt s (v .labels))) (outcomeOfPlaces r) ≡ withLabels h profile list s) (λ q. q ≡ 4)
+    pub with-labels-longer : OnLongerBytes outcomeOfPacketPlaces (λ s r (_ : Unit {0}). onOk (λ v. (v, streamsAt s (v .labels))) (outcomeOfPacketPlaces r) ≡ withLabels h profile list s) (λ q. q ≡ 4)
         (λ _ _. list .next < 2 ^ 62)
     with-labels-longer =
-        standing-longer outcomeOfPlaces places-answer-one (λ s v. streamsAt s (v .labels)) (withLabels h profile list) with-labels-prefix 4 (list .next) with-labels-names with-labels-completes
+        standing-longer outcomeOfPacketPlaces places-answer-one (λ s v. streamsAt s (v .labels)) (withLabels h profile list) with-labels-prefix 4 (list .next) with-labels-names with-labels-completes
 
 -- ---- whoever hands a packet out
 pub fits-not-truncated : (capacities : List ℕ) (v : PacketPlaces) (c : Contents) (more : List (List ℕ)) → NotTruncated (packetIfFits capacities v c more)

@@ -59,9 +59,9 @@ contentsAt s v = record { peaks = peaksAt (v .list .wide) (itemSize (v .list .wi
 unfoldable pub withLabels : PacketHeader → PacketProfile → PeakList → List ℕ → Outcome (PacketPlaces × Streams)
 withLabels h profile list run = onOk (λ l. (record { header = h; profile = profile; list = list; labels = l .0 }, l .1)) (readLabels h (list .count) (list .next) run)
 
-abbrev pub outcomeOfPlaces : PacketPlacesAnswer → Outcome PacketPlaces
-outcomeOfPlaces (places.Places p) = ok p
-outcomeOfPlaces (places.Refused r) = outcomeOfRefusal r
+abbrev pub outcomeOfPacketPlaces : PacketPlacesAnswer → Outcome PacketPlaces
+outcomeOfPacketPlaces (places.Places p) = ok p
+outcomeOfPacketPlaces (places.Refused r) = outcomeOfRefusal r
 
 -- the answer's record
 unfoldable pub recordOf : PacketPlaces → ScanDataPacket

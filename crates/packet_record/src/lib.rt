@@ -6,7 +6,7 @@ ghost use mathlib.Core.List.{[], _∷_};
 ghost use Rattle.refusal.specs.Outcome.{onOk};
 ghost use Rattle.lists.specs.Left.{fits, lengths, overAll, LeftLists};
 ghost use Rattle.packet_labels.specs.Labels.{streamsAt};
-ghost use Rattle.packet_record.specs.Packet.{contentsAt, withLabels, outcomeOfPlaces, recordOf, listsOf, packetIfFits, withNodes};
+ghost use Rattle.packet_record.specs.Packet.{contentsAt, withLabels, outcomeOfPacketPlaces, recordOf, listsOf, packetIfFits, withNodes};
 use lists::holds;
 use packet_header::PacketHeader;
 use packet_labels::Labels;
@@ -64,7 +64,7 @@ pub fn with_labels(
     profile: PacketProfile,
     list: PeakList,
 ) -> PacketPlacesAnswer
-    ensures { λ r. ⌜ onOk (λ v. (v, streamsAt (now (run .entry)) (v .labels))) (outcomeOfPlaces r) ≡ withLabels header profile list (now (run .entry)) ⌝ }
+    ensures { λ r. ⌜ onOk (λ v. (v, streamsAt (now (run .entry)) (v .labels))) (outcomeOfPacketPlaces r) ≡ withLabels header profile list (now (run .entry)) ⌝ }
 {
     match read_labels(run, list.next, header, list.count) {
         LabelsAnswer::Refused(r) => PacketPlacesAnswer::Refused(r),

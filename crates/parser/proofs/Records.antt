@@ -5,7 +5,7 @@ use mathlib.Core.List.{List}
 use lib.Dec.{leb}
 use borrow.Author.Tests.{leb-true, le-leb, lt-leb}
 use Rattle.refusal.specs.Outcome.{Outcome, ranOut}
-use Rattle.parser.specs.Parser.{Parser, parsed, left, parse}
+use Rattle.parser.specs.Parser.{Parser, parsed, remaining, parse}
 use Rattle.parser.specs.Call.{outcome, single}
 use Rattle.parser.specs.Internal.{Sized, value}
 use Rattle.parser.specs.LongerBytes.{OnLongerBytes, PrefixProperty, Names, Completes}
@@ -44,17 +44,17 @@ module _ {A B : Type 0} (number at : ℕ) (p : Parser B) (f : B → ℕ → Outc
 
     -- the answer, by the one test that decides it
     module _ (s : List ℕ) where
-      pub record-short : left s at < n → ranOut number ≡ outcome (single number at p f) s
+      pub record-short : remaining s at < n → ranOut number ≡ outcome (single number at p f) s
       unfolding outcome
       record-short h = rw (parse-sized n p sized s at, lt-leb _ _ h)
 
-      pub record-whole : n ≤ left s at → {o : Outcome A} → o ≡ f (value p s at 0) (at + n) → o ≡ outcome (single number at p f) s
+      pub record-whole : n ≤ remaining s at → {o : Outcome A} → o ≡ f (value p s at 0) (at + n) → o ≡ outcome (single number at p f) s
       unfolding outcome
       record-whole h e = rw (parse-sized n p sized s at, le-leb _ _ h) e
 
 -- a record that was read stands there
 pub sized-read : {A : Type 0} (n : ℕ) (p : Parser A) → Sized n p → (s : List ℕ) (at : ℕ) {v : A} {next : ℕ} → parse p s at ≡ parsed v next
-    → (n ≤ left s at) × (v ≡ value p s at 0) × (next ≡ at + n)
+    → (n ≤ remaining s at) × (v ≡ value p s at 0) × (next ≡ at + n)
 sized-read n p sized s at h =
-    let w = within-parsed (leb n (left s at)) _ (sym (parse-sized n p sized s at) ∙ h) in
-    (leb-true n (left s at) (w .0), cc (w .1), cc (w .1))
+    let w = within-parsed (leb n (remaining s at)) _ (sym (parse-sized n p sized s at) ∙ h) in
+    (leb-true n (remaining s at) (w .0), cc (w .1), cc (w .1))

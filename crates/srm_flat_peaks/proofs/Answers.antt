@@ -10,7 +10,7 @@ use borrow.Author.Tests.{le-leb, lt-leb}
 use Rattle.refusal.specs.Outcome.{Outcome, ok, refused, ranOut}
 use Rattle.lists.specs.Left.{pairsIfFit}
 use Rattle.lists.proofs.Laws.{each-none}
-use Rattle.parser.specs.Parser.{done, seek, Parsed, short, parsed, left, within, parse, saturatingAdd}
+use Rattle.parser.specs.Parser.{done, seek, Parsed, short, parsed, remaining, within, parse, saturatingAdd}
 use Rattle.parser.specs.Call.{onward, outcome, single}
 use Rattle.parser.proofs.Prefix.{after, parse-bind}
 use Rattle.peaks.specs.Peaks.{Peak, peaksAt}
@@ -95,7 +95,7 @@ module _ (s : List ℕ) where
   from-stands : (place n : ℕ) → Stands s (parse (peaksFrom place n) s place)
   from-stands place n =
       rw (parse-from s place n place)
-      (go (leb (n * 8) (left s place)) (looksValid (peaksAt false 8 s place n)) _)
+      (go (leb (n * 8) (remaining s place)) (looksValid (peaksAt false 8 s place n)) _)
     where
       go : (a b : Bool) (next : ℕ) → Stands s (within a (parsed (cond b (accepted place (peaksAt false 8 s place n)) passedOver) next))
       go false b next = tt

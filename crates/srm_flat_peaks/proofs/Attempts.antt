@@ -9,7 +9,7 @@ use lib.Dec.{leb}
 use lib.Ieee.{binary32, ofBits}
 use borrow.Author.Tests.{le-leb, lt-leb, le-ltb, lt-ltb}
 use Rattle.lists.proofs.Laws.{each-same, each-cons}
-use Rattle.parser.specs.Parser.{Parser, done, parsed, bytes, littleEndian, left, within, parse, counted}
+use Rattle.parser.specs.Parser.{Parser, done, parsed, bytes, littleEndian, remaining, within, parse, counted}
 use Rattle.parser.specs.Internal.{Sized, value}
 use Rattle.parser.proofs.Fixed.{parse-stage, sized-counted, value-each}
 use Rattle.peaks.specs.Peaks.{Peak, peak, peakAt, peaksAt}
@@ -39,7 +39,7 @@ module _ (s : List ℕ) (place : ℕ) where
       value-each 8 (peak false) peak-sized n s place 0 ∙ each-same _ _ n (λ i. rw (here i, beyond i))
 
   pub parse-from : (n at : ℕ) → parse (peaksFrom at n) s place
-      ≡ within (leb (n * 8) (left s place)) (parsed (cond (looksValid (peaksAt false 8 s place n)) (accepted at (peaksAt false 8 s place n)) passedOver) (place + n * 8))
+      ≡ within (leb (n * 8) (remaining s place)) (parsed (cond (looksValid (peaksAt false 8 s place n)) (accepted at (peaksAt false 8 s place n)) passedOver) (place + n * 8))
   unfolding peaksFrom parse
   parse-from n at = parse-stage (n * 8) (peaksOf n) (λ ps. done (cond (looksValid ps) (accepted at ps) passedOver)) (peaks-sized n) s place ∙ rw (peaks-value n)
 
@@ -61,11 +61,11 @@ module _ (end cumEnd dataSize subtract : ℕ) (s : List ℕ) (at : ℕ) where
     too-long u = rw (lt-leb _ _ t, lt-ltb _ _ u)
 
     module _ (u : (dataSize - subtract) * 9 ≤ cumEnd) (place : ℕ) (e : place ≡ end - (dataSize - subtract) * 9) where
-      pub runs-out : left s place < (dataSize - subtract) * 8 → RanOut ≡ attemptAnswer (parse (attempt end cumEnd dataSize subtract) s at)
+      pub runs-out : remaining s place < (dataSize - subtract) * 8 → RanOut ≡ attemptAnswer (parse (attempt end cumEnd dataSize subtract) s at)
       unfolding attempt parse
       runs-out v = rw (lt-leb _ _ t, le-ltb _ _ u, ← e, parse-from s place (dataSize - subtract) place, lt-leb _ _ v)
 
-      module _ (v : (dataSize - subtract) * 8 ≤ left s place) where
+      module _ (v : (dataSize - subtract) * 8 ≤ remaining s place) where
         -- peaks that are there are accepted by the first, or passed over
         by-first : attemptAnswer (parse (attempt end cumEnd dataSize subtract) s at)
             ≡ attemptAnswer (parsed (cond (isPlausible (ofBits binary32 (littleEndian (bytes s place 4)))) (accepted place (peaksAt false 8 s place (dataSize - subtract))) passedOver) (place + (dataSize - subtract) * 8))

@@ -5,14 +5,14 @@ use mathlib.Core.List.{List}
 use lib.Dec.{leb, eqb}
 use Rattle.refusal.specs.Outcome.{Outcome, ok, ranOut}
 use Rattle.lists.specs.Written.{each}
-use Rattle.parser.specs.Parser.{left, wordAt}
+use Rattle.parser.specs.Parser.{remaining, wordAt}
 
 -- how many channels the scan at a place has, where its table takes so many bytes for each
 unfoldable pub channels : ℕ → List ℕ → ℕ → Outcome ℕ
 channels size s at =
     let n = wordAt s at 4 in
-    cond (leb 4 (left s at))
-    (cond (eqb n 0) (ok 0) (cond (leb (28 + n * size) (left s (at + 4))) (ok n) (ranOut 4)))
+    cond (leb 4 (remaining s at))
+    (cond (eqb n 0) (ok 0) (cond (leb (28 + n * size) (remaining s (at + 4))) (ok n) (ranOut 4)))
     (ranOut 4)
 
 unfoldable pub windowsAt : List ℕ → ℕ → ℕ → List (ℕ × ℕ)

@@ -7,7 +7,7 @@ use native.Mathlib.Omega.{arith}
 use lib.Ieee.{Float}
 use lib.ListN.{length}
 use Rattle.lists.specs.Filter.{firstOr}
-use Rattle.srm_transition.specs.Transition.{v63Test, v63At, searchV63Transition, eventTest, eventAt, flatv66EventTransition}
+use Rattle.srm_transition.specs.Transition.{v63Test, v63At, searchV63Transition, eventTest, eventTransitionAt, flatv66EventTransition}
 use Rattle.srm_transition.specs.LongerBytes.{FoundStays}
 use Rattle.srm_transition.specs.declared.TransitionAnswer.the-variants.{None, Found}
 use Rattle.srm_transition.specs.declared.EventTransitionAnswer.the-variants.{None as NoEvent, Found as FoundEvent}
@@ -56,14 +56,14 @@ unfolding eventTest
 event-by event hi s t i h k =
     rw (le-there s t i 8 (omega arith), le-there s t (i - 8) 8 (omega arith), le-there s t (i - 24) 4 (omega arith), le-there s t (i - 16) 8 (omega arith))
 
-event-at-by : Local 24 8 (λ s i. FoundEvent (eventAt s i))
+event-at-by : Local 24 8 (λ s i. FoundEvent (eventTransitionAt s i))
 event-at-by s t i h k = rw (le-there s t (i - 16) 8 (omega arith))
 
 pub event-found-stays : (event : ℕ) (hi : Float) (s t : List ℕ) → (flatv66EventTransition event hi s ≡ NoEvent → ⊥)
     → flatv66EventTransition event hi (s ++ t) ≡ flatv66EventTransition event hi s
 unfolding flatv66EventTransition
 event-found-stays event hi s t some =
-    found-stays NoEvent 24 8 (eventTest event hi) (λ s i. FoundEvent (eventAt s i)) (event-by event hi) event-at-by s t some
+    found-stays NoEvent 24 8 (eventTest event hi) (λ s i. FoundEvent (eventTransitionAt s i)) (event-by event hi) event-at-by s t some
 
 pub event-longer : (event : ℕ) (hi : Float) → FoundStays NoEvent (λ s r. r ≡ flatv66EventTransition event hi s)
 event-longer event hi = stays-answered NoEvent (flatv66EventTransition event hi) (event-found-stays event hi)

@@ -52,9 +52,9 @@ module _ (test : ℕ → Bool) (from : ℕ) where
     pub places-front : (end : ℕ) → i ≤ end → placesWhere test from end ≡ placesWhere test from i ++ placesWhere test i end
     unfolding placesWhere
     places-front end l =
-        let parts : end - from ≡ i - from + (end - i) = omega arith in
+        let both : end - from ≡ i - from + (end - i) = omega arith in
         let seam : from + (i - from) ≡ i = omega arith in
-        rw parts (rw seam at (places-add test from (i - from) (end - i)))
+        rw both (rw seam at (places-add test from (i - from) (end - i)))
 
 -- tests that say the same pass the same places
 pub places-same : (f g : ℕ → Bool) (from end : ℕ) → ((i : ℕ) → g i ≡ f i) → placesWhere g from end ≡ placesWhere f from end

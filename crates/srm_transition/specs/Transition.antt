@@ -63,8 +63,8 @@ eventTest event hi s i =
     && eqb (wordAt s (i - 24) 4) event
     && isBetween (whole 10) (whole 3000) (f64At s (i - 16))
 
-abbrev pub eventAt : List ℕ → ℕ → EventTransition
-eventAt s i = record { place = i; q1 = wordAt s (i - 16) 8 }
+abbrev pub eventTransitionAt : List ℕ → ℕ → EventTransition
+eventTransitionAt s i = record { place = i; q1 = wordAt s (i - 16) 8 }
 
 unfoldable pub flatv66EventTransition : ℕ → Float → List ℕ → EventTransitionAnswer
-flatv66EventTransition event hi s = firstOr NoEvent (map (λ i. FoundEvent (eventAt s i)) (placesWhere (eventTest event hi s) 24 (length s - 8)))
+flatv66EventTransition event hi s = firstOr NoEvent (map (λ i. FoundEvent (eventTransitionAt s i)) (placesWhere (eventTest event hi s) 24 (length s - 8)))

@@ -13,7 +13,7 @@ use Rattle.parser.proofs.Answered.{found, ran-out}
 use Rattle.event_record.specs.Event.{Event}
 use Rattle.events.specs.Event.{eventEnd, eventPlace}
 use Rattle.events.proofs.Steps.{place-none, place-more, none-after}
-use Rattle.tray_header.specs.Header.{readHeader}
+use Rattle.tray_header.specs.Header.{readTrayHeader}
 use Rattle.tray_header.specs.declared.TrayHeader.{TrayHeader}
 use Rattle.tray_scan.specs.Scan.{trayEvent, scanParts, scanIfFits, scanAt, placeOrEnd}
 use Rattle.tray_scan.proofs.Parts.{same-event}
@@ -58,7 +58,7 @@ module _ (h : TrayHeader) (k : ℕ) (s : List ℕ) where
 
 -- ---- in a tray, whatever its limit of scans is
 module _ (limit number : ℕ) (s : List ℕ) where
-  module _ {h : TrayHeader} (e : ok h ≡ readHeader limit number s) where
+  module _ {h : TrayHeader} (e : ok h ≡ readTrayHeader limit number s) where
     pub place-first : 0 < h .scans → eventOf limit number 0 s ≡ ok (h .events)
     unfolding eventOf
     place-first l = rw (← has-scan limit number s 0 e l) (place-none (h .version) (h .primary) (h .dependent) (drop 32 s) (h .events))

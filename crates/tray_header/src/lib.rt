@@ -1,7 +1,7 @@
 // The header of a tray: a run, with what is needed to read its scans in front of it.
 ghost use mathlib.Core.Path.{_≡_};
 ghost use Prim.Native.Nat.{_≤_};
-ghost use Rattle.parser.specs.Parser.{left};
+ghost use Rattle.parser.specs.Parser.{remaining};
 ghost use Rattle.parser.specs.Internal.{value};
 ghost use Rattle.tray_header.specs.Header.{header, readTrayHeader, outcomeOf};
 use reader::remaining;
@@ -30,7 +30,7 @@ pub enum TrayHeaderAnswer {
 
 // The fields of a header whose bytes are there.
 fn fields(tray: &[u8]) -> TrayHeader
-    requires { ⌜ 32 ≤ left (now tray) 0 ⌝ }
+    requires { ⌜ 32 ≤ remaining (now tray) 0 ⌝ }
     ensures { λ r. ⌜ r ≡ value header (now (tray .entry)) 0 0 ⌝ }
 {
     TrayHeader {

@@ -9,7 +9,7 @@ use lib.Dec.{leb}
 use borrow.Author.Tests.{leb-false, lt-leb}
 use Rattle.refusal.specs.Outcome.{Outcome, ok, refused, onOk, andThen}
 use Rattle.lists.proofs.Cases.{leb-cases}
-use Rattle.parser.specs.Parser.{Parser, Parsed, short, parsed, parse, left}
+use Rattle.parser.specs.Parser.{Parser, Parsed, short, parsed, parse, remaining}
 use Rattle.parser.specs.Call.{onward, outcome, partAt}
 use Rattle.parser.proofs.Fixed.{parse-sized}
 use Rattle.scan_index.specs.Entry.{entry, entrySize, readEntry}
@@ -35,12 +35,12 @@ module _ (h : TrayHeader) (k : ℕ) (s : List ℕ) where
   entry-alone =
       let n = k * entrySize (h .version) in
       ⊎-elim
-      (λ (e : leb n (left s (h .index)) ≡ true). rw e)
-      (λ (e : leb n (left s (h .index)) ≡ false).
-      let few = leb-false n (left s (h .index)) e in
-      let none = lt-leb (entrySize (h .version)) (left s (h .index + n)) (omega (arith, entry-least (h .version))) in
+      (λ (e : leb n (remaining s (h .index)) ≡ true). rw e)
+      (λ (e : leb n (remaining s (h .index)) ≡ false).
+      let few = leb-false n (remaining s (h .index)) e in
+      let none = lt-leb (entrySize (h .version)) (remaining s (h .index + n)) (omega (arith, entry-least (h .version))) in
       rw (e, parse-sized (entrySize (h .version)) (entry (h .version)) (entry-sized (h .version)) s (h .index + n), none))
-      (leb-cases n (left s (h .index)))
+      (leb-cases n (remaining s (h .index)))
 
   pub in-turn : (place : ℕ) (events : Parser Event) → inTurn h k (partAt 3 place events s) s ≡ outcome (scanParts h k place events) s
   unfolding inTurn readEntry scanParts withData outcome partAt

@@ -17,11 +17,11 @@ use Rattle.event_record.specs.declared.ScanEvent.{ScanEvent}
 use Rattle.pairs.specs.Pairs.{Pair}
 use Rattle.tray_data.specs.Data.{pairs, contentAt, countOf}
 use Rattle.tray_scan.specs.Scan.{scanIfFits}
-use Rattle.tray_scan.specs.Internal.{partsAt, Counted}
+use Rattle.tray_scan.specs.Internal.{partsAt, CountHolds}
 use Rattle.tray_scan.specs.declared.ScanPlaces.{ScanPlaces}
 
 -- six lent slices, and a scan whose data count n pairs
-module _ (s : List ℕ) (p : ScanPlaces) (counted : Counted s (p .«data»)) {n : ℕ} (hn : n ≡ countOf (p .«data»)) (a b c d : List ℕ) (m i : List Float) where
+module _ (s : List ℕ) (p : ScanPlaces) (counted : CountHolds s (p .«data»)) {n : ℕ} (hn : n ≡ countOf (p .«data»)) (a b c d : List ℕ) (m i : List Float) where
   abbrev e : Event
   e = partsAt s p .event
 

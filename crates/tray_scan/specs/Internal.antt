@@ -45,12 +45,12 @@ outcomeOfScanPlaces run (scan.At p) = ok (partsAt run p)
 outcomeOfScanPlaces run (scan.Refused r) = outcomeOfRefusal r
 
 -- data give as many pairs as they count, by any coefficients: so it is with all that were found
-abbrev pub Counted : List ℕ → ScanData → Type 0
-Counted run d = (coefficients : List ℕ) → length (pairs coefficients (contentAt d run)) ≡ countOf d
+abbrev pub CountHolds : List ℕ → ScanData → Type 0
+CountHolds run d = (coefficients : List ℕ) → length (pairs coefficients (contentAt d run)) ≡ countOf d
 
-abbrev pub CountedIn : List ℕ → ScanPlacesAnswer → Type 0
-CountedIn run (scan.At p) = Counted run (p .«data»)
-CountedIn run (scan.Refused r) = Unit {0}
+abbrev pub CountHoldsIn : List ℕ → ScanPlacesAnswer → Type 0
+CountHoldsIn run (scan.At p) = CountHolds run (p .«data»)
+CountHoldsIn run (scan.Refused r) = Unit {0}
 
 -- an event that was sought, and the place after it
 abbrev pub eventFound : List ℕ → PlacesAnswer → Outcome (Event × ℕ)

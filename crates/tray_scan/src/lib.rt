@@ -6,7 +6,7 @@ ghost use Rattle.lists.specs.Left.{LeftListsAndPairs};
 ghost use Rattle.scan_index.specs.Entry.{outcomeOf as outcomeOfEntry};
 ghost use Rattle.tray_data.specs.Data.{findData, outcomeOf as outcomeOfData};
 ghost use Rattle.tray_scan.specs.Scan.{formatIn, scanIfFits, scanAt, endIn, placeOrEnd, outcomeOf};
-ghost use Rattle.tray_scan.specs.Internal.{entryOf, inTurn, partsAt, outcomeOfScanPlaces, Counted, CountedIn, eventFound, nextPlace};
+ghost use Rattle.tray_scan.specs.Internal.{entryOf, inTurn, partsAt, outcomeOfScanPlaces, CountHolds, CountHoldsIn, eventFound, nextPlace};
 use event_record::EventAnswer;
 use event_record::Places;
 use event_record::PlacesAnswer;
@@ -74,7 +74,7 @@ fn data_of(run: &[u8], h: TrayHeader, entry: ScanIndexEntry) -> DataAnswer
 // Entry k and its data, with the event that was sought.
 fn find_scan(run: &[u8], h: TrayHeader, k: u32, event: PlacesAnswer) -> ScanPlacesAnswer
     ensures { λ r. ⌜ outcomeOfScanPlaces (now (run .entry)) r ≡ inTurn h k (eventFound (now (run .entry)) event) (now (run .entry)) ⌝ }
-    ensures { λ r. ⌜ CountedIn (now (run .entry)) r ⌝ }
+    ensures { λ r. ⌜ CountHoldsIn (now (run .entry)) r ⌝ }
 {
     match entry_of(run, h, k) {
         EntryAnswer::Refused(r) => ScanPlacesAnswer::Refused(r),
@@ -103,7 +103,7 @@ fn write_scan(
     mz: &mut [f64],
     intensity: &mut [f64],
 ) -> ScanAnswer
-    requires { ⌜ Counted (now run) (p .«data») ⌝ }
+    requires { ⌜ CountHolds (now run) (p .«data») ⌝ }
     ensures { λ r. ⌜ LeftListsAndPairs (λ c. scanIfFits c (partsAt (now (run .entry)) p))
         (now (preamble .entry) ∷ now (precursors .entry) ∷ now (energies .entry) ∷ now (coefficients .entry) ∷ []) (now (mz .entry)) (now (intensity .entry))
         (outcomeOf r) (now (preamble .exit) ∷ now (precursors .exit) ∷ now (energies .exit) ∷ now (coefficients .exit) ∷ []) (now (mz .exit)) (now (intensity .exit)) ⌝ }

@@ -15,11 +15,11 @@ use Rattle.calibration.proofs.write_pairs.Statement.{statement}
 use Rattle.calibration.proofs.write_pairs.Tie as tie
 
 abbrev Inv-loop : tie.InvT-loop
-Inv-loop run at n bins layout mz₀ intensity₀ count place₀ i₀ mz intensity place i =
-    Filling (mzOn bins layout) count mz₀ mz i × Filling (λ k. f32At run (at + k * 4)) count intensity₀ intensity i × (place ≡ min (at + i * 4) (2 ^ 64 - 1))
+Inv-loop run at n bins conversion mz₀ intensity₀ count place₀ i₀ mz intensity place i =
+    Filling (mzOn bins conversion) count mz₀ mz i × Filling (λ k. f32At run (at + k * 4)) count intensity₀ intensity i × (place ≡ min (at + i * 4) (2 ^ 64 - 1))
 
 abbrev μ-loop : tie.MeasureT-loop
-μ-loop run at n bins layout mz₀ intensity₀ count place₀ i₀ mz intensity place i = count - i
+μ-loop run at n bins conversion mz₀ intensity₀ count place₀ i₀ mz intensity place i = count - i
 
 loop-holds : tie.Need-loop-holds Inv-loop μ-loop
 loop-holds c = (fill-none _ _ _, fill-none _ _ _, omega arith)

@@ -24,15 +24,15 @@ write-kept-requires c κs =
     let r = c .before .before in
     let t = r .before in
     let pre = t .before .before .before .before .before .pre in
-    let is = of-tribrid _ (t .before .if1 .left) (t .if2 .taken) (r .records .ensures) in
-    ((omega arith, rw (r .records .ensures) (records-fit _ _ _)), (rw is at (pre .0), rw is at (pre .1)))
+    let is = of-tribrid _ (t .before .if1 .left) (t .if2 .taken) (r .record-count .ensures) in
+    ((omega arith, rw (r .record-count .ensures) (records-fit _ _ _)), (rw is at (pre .0), rw is at (pre .1)))
 
 returns-2 : tie.Need-returns-2
 returns-2 c =
     let k = c .before .before .before .before in
     let r = k .before .before .before in
     let t = r .before in
-    let is = of-tribrid _ (t .before .if1 .left) (t .if2 .taken) (r .records .ensures) in
+    let is = of-tribrid _ (t .before .if1 .left) (t .if2 .taken) (r .record-count .ensures) in
     (rw is (k .write-kept .ensures .1 .0), rw is (k .write-kept .ensures .1 .1))
 
 write-kept-requires-2 : tie.Need-write-kept-requires-2
@@ -40,8 +40,8 @@ write-kept-requires-2 c κs =
     let r = c .before .before in
     let e = r .before in
     let pre = e .before .before .before .before .before .pre in
-    let most = counted-within _ (e .before .if1 .left) (e .if2 .left) (r .records2 .ensures) in
-    ((omega arith, rw (r .records2 .ensures) (records-fit _ _ _)), (omega (arith, most, pre .0), omega (arith, most, pre .1)))
+    let most = counted-within _ (e .before .if1 .left) (e .if2 .left) (r .record-count2 .ensures) in
+    ((omega arith, rw (r .record-count2 .ensures) (records-fit _ _ _)), (omega (arith, most, pre .0), omega (arith, most, pre .1)))
 
 returns-3 : tie.Need-returns-3
 unfolding each
@@ -57,8 +57,8 @@ returns-3 c =
     let start = e .before .before .before .before .before in
     let body = now (start .args .body) in
     let none = sym (k .write-kept2 .ensures .0) ∙ z .if3 .taken in
-    let is = of-uncounted body (e .before .if1 .left) (e .if2 .left) (r .records2 .ensures) none (sym (u .has-uncounted .ensures) ∙ t .if4 .taken) in
-    let rs = kept body 8 (r .records2 .result) in (
+    let is = of-uncounted body (e .before .if1 .left) (e .if2 .left) (r .record-count2 .ensures) none (sym (u .has-uncounted .ensures) ∙ t .if4 .taken) in
+    let rs = kept body 8 (r .record-count2 .result) in (
       rw is (column-first (λ x. x .0) rs none (wordAt body 4 8) _ (k .write-kept2 .ensures .1 .0) (p1 .copy-u64s .ensures .stands) (rw is at (start .pre .0))),
       rw is (column-first (λ x. x .1) rs none (wordAt body 20 8) _ (k .write-kept2 .ensures .1 .1) (p2 .copy-u64s2 .ensures .stands) (rw is at (start .pre .1))),
     )
@@ -72,8 +72,8 @@ returns-4 c =
     let is =
     by-ways
     (c .if3 .came)
-    (λ w. of-neither _ (e .before .if1 .left) (e .if2 .left) (r .records2 .ensures) (sym (w .1 .ensures) ∙ w .2 .left))
-    (λ w. of-counted _ (e .before .if1 .left) (e .if2 .left) (r .records2 .ensures) (λ z. w .left (done .0 ∙ z))) in
+    (λ w. of-neither _ (e .before .if1 .left) (e .if2 .left) (r .record-count2 .ensures) (sym (w .1 .ensures) ∙ w .2 .left))
+    (λ w. of-counted _ (e .before .if1 .left) (e .if2 .left) (r .record-count2 .ensures) (λ z. w .left (done .0 ∙ z))) in
     (rw is (done .1 .0), rw is (done .1 .1))
 
 pub write-sought-spec : {M : Type 1} → statement M

@@ -1,4 +1,4 @@
--- `event_window::or_at` meets its contract: the place is looked at only where nothing was found.
+-- `event_window::or_at` meets its contract: the offset is looked at only where nothing was found.
 use borrow.Author.Needs.{needs}
 use Rattle.event_window.proofs.or_at.Statement.{statement}
 use Rattle.event_window.proofs.or_at.Tie as tie

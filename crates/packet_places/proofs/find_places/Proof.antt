@@ -4,7 +4,7 @@ use denote.Ref.{now}
 use Rattle.packet_header.specs.Header.{outcomeOf}
 use Rattle.packet_header.proofs.Size.{header-read}
 use Rattle.refusal.specs.Outcome.{andThen}
-use Rattle.packet_record.specs.Packet.{outcomeOfPlaces}
+use Rattle.packet_record.specs.Packet.{outcomeOfPacketPlaces}
 use Rattle.packet_places.specs.Internal.{afterHeader, inTurn}
 use Rattle.packet_places.proofs.Answers.{by-stages, no-packet}
 use borrow.Author.Needs.{needs}
@@ -26,7 +26,7 @@ returns-2 : tie.Need-returns-2
 unfolding inTurn
 returns-2 c =
     let a = c .before .before .before .before .before .before .args in
-    by-stages (now (a .run)) (a .at) (outcomeOfPlaces (c .after-header .result))
+    by-stages (now (a .run)) (a .at) (outcomeOfPacketPlaces (c .after-header .result))
     (c .after-header .ensures ∙ ap (λ o. andThen o (λ h. afterHeader h (a .at) (now (a .run)))) (sym (ap outcomeOf (c .before .before .h .given .1)) ∙ c .before .before .before .before .read .ensures))
 
 pub find-places-spec : {M : Type 1} → statement M

@@ -5,7 +5,7 @@ use Rattle.refusal.specs.Outcome.{onOk}
 use Rattle.lists.proofs.Left.{left-refused, left-same}
 use Rattle.packet_labels.specs.Labels.{streamsAt}
 use Rattle.packet_peak_list.specs.PeakList.{outcomeOfSkipped}
-use Rattle.packet_record.specs.Packet.{outcomeOfPlaces}
+use Rattle.packet_record.specs.Packet.{outcomeOfPacketPlaces}
 use Rattle.packet_skipping.proofs.Answers.{no-peaks, no-labels, whole-packet}
 use borrow.Author.Needs.{needs}
 use Rattle.packet_skipping.proofs.read_skip_profile.Statement.{statement}
@@ -20,7 +20,7 @@ returns-2 c =
     let s = now (p .before .before .before .before .before .before .before .before .args .run) in
     left-refused
     (no-labels _ _ _ _ (sym (ap outcomeOfSkipped (p .p .given .1)) ∙ p .before .before .skip-to-peaks .ensures)
-    (sym (ap (λ r. onOk (λ v. (v, streamsAt s (v .labels))) (outcomeOfPlaces r)) (c .before .r2 .given .1)) ∙ c .before .before .before .with-labels .ensures))
+    (sym (ap (λ r. onOk (λ v. (v, streamsAt s (v .labels))) (outcomeOfPacketPlaces r)) (c .before .r2 .given .1)) ∙ c .before .before .before .with-labels .ensures))
 
 returns-3 : tie.Need-returns-3
 returns-3 c =
@@ -30,7 +30,7 @@ returns-3 c =
     let s = now (p .before .before .before .before .before .before .before .before .args .run) in
     left-same
     (whole-packet _ _ _ _ (sym (ap outcomeOfSkipped (p .p .given .1)) ∙ p .before .before .skip-to-peaks .ensures)
-    (sym (ap (λ r. onOk (λ w. (w, streamsAt s (w .labels))) (outcomeOfPlaces r)) (v .places .given .1)) ∙ v .before .before .with-labels .ensures))
+    (sym (ap (λ r. onOk (λ w. (w, streamsAt s (w .labels))) (outcomeOfPacketPlaces r)) (v .places .given .1)) ∙ v .before .before .with-labels .ensures))
     (h .write-packet .ensures)
 
 pub read-skip-profile-spec : {M : Type 1} → statement M

@@ -3,7 +3,7 @@ use mathlib.Core.Path.{_≡_, refl, sym, _∙_}
 use Prim.Native.Nat.{_-_, _≤_}
 use native.Mathlib.Omega.{arith}
 use lib.ListN.{length}
-use Rattle.srm_transition.specs.Transition.{eventTest, eventAt, flatv66EventTransition}
+use Rattle.srm_transition.specs.Transition.{eventTest, eventTransitionAt, flatv66EventTransition}
 use Rattle.srm_transition.specs.declared.EventTransitionAnswer.the-variants.{None, Found}
 use Rattle.srm_transition.proofs.Places.{first, first-here, first-later, first-none}
 use borrow.Author.Needs.{needs}
@@ -12,7 +12,7 @@ use Rattle.srm_transition.proofs.flatv66_event_transition.Tie as tie
 
 abbrev Inv-loop : tie.InvT-loop
 Inv-loop «data» event hi end i₀ i =
-    (24 ≤ i) × (flatv66EventTransition event hi «data» ≡ first (eventTest event hi «data») (λ at. Found (eventAt «data» at)) None i (length «data» - 8))
+    (24 ≤ i) × (flatv66EventTransition event hi «data» ≡ first (eventTest event hi «data») (λ at. Found (eventTransitionAt «data» at)) None i (length «data» - 8))
 
 abbrev μ-loop : tie.MeasureT-loop
 μ-loop «data» event hi end i₀ i = end - i

@@ -7,8 +7,8 @@ use lib.ListN.{length}
 use Rattle.lists.specs.Left.{fits}
 use Rattle.event_writer.proofs.Writing.{no-room, holds-precursors, event-written}
 use borrow.Author.Needs.{needs}
-use Rattle.event_writer.proofs.write_parts.Statement.{statement}
-use Rattle.event_writer.proofs.write_parts.Tie as tie
+use Rattle.event_writer.proofs.write_if_fits.Statement.{statement}
+use Rattle.event_writer.proofs.write_if_fits.Tie as tie
 
 -- the test is one of all four
 room : (t : tie.Then1)
@@ -44,5 +44,5 @@ returns-2 c =
     no-room _ _ _ _ _ _ _ (h .before .before .before .before .count-reactions .ensures) _
     (rw (← h .before .before .before .holds .ensures, ← h .before .before .holds2 .ensures, ← h .before .holds3 .ensures, ← h .holds4 .ensures) (c .if1 .left))
 
-pub write-parts-spec : {M : Type 1} → statement M
-write-parts-spec = tie.close (tie.spec (search needs) (search needs) (search needs) (search needs) (search needs) write-lists-requires (search needs) (search needs) (search needs) part-activation-end (search needs) (search needs) (search needs) (search needs) (search needs) returns returns-2)
+pub write-if-fits-spec : {M : Type 1} → statement M
+write-if-fits-spec = tie.close (tie.spec (search needs) (search needs) (search needs) (search needs) (search needs) write-lists-requires (search needs) (search needs) (search needs) part-activation-end (search needs) (search needs) (search needs) (search needs) (search needs) returns returns-2)

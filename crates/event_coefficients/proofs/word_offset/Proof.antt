@@ -1,11 +1,11 @@
--- `event_coefficients::word_place` meets its contract.
+-- `event_coefficients::word_offset` meets its contract.
 use mathlib.Core.Path.{_∙_}
 use mathlib.Core.Logic.{⊎-elim}
 use borrow.Author.Tests.{eq-eqb, ne-eqb}
-use Rattle.event_coefficients.proofs.Place.{window-at-64, primary-at-8, elsewhere}
+use Rattle.event_coefficients.proofs.Offset.{window-at-64, primary-at-8, elsewhere}
 use borrow.Author.Needs.{needs}
-use Rattle.event_coefficients.proofs.word_place.Statement.{statement}
-use Rattle.event_coefficients.proofs.word_place.Tie as tie
+use Rattle.event_coefficients.proofs.word_offset.Statement.{statement}
+use Rattle.event_coefficients.proofs.word_offset.Tie as tie
 
 returns : tie.Need-returns
 returns c = window-at-64 _ _ _ (c .if1 .taken)
@@ -21,5 +21,5 @@ returns-3 c =
     (⊎-elim (λ w. rw (eq-eqb _ 8 (w .0 .taken), w .1 .left)) (λ w. rw (ne-eqb _ 8 (w .left))))
     (c .before .if2 .came))
 
-pub word-place-spec : {M : Type 1} → statement M
-word-place-spec = tie.close (tie.spec returns returns-2 (search needs) returns-3)
+pub word-offset-spec : {M : Type 1} → statement M
+word-offset-spec = tie.close (tie.spec returns returns-2 (search needs) returns-3)
