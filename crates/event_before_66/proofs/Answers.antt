@@ -82,7 +82,7 @@ module _ (version : ℕ) (s : List ℕ) (at : ℕ) where
       pub whole : m * 8 + 8 ≤ remaining s (at + len + (n * 32 + 28)) → {lists : Lists}
           → lists ≡ listsBefore66 n (wordAt s (at + len + (n * 32 + 8)) 8) (wordAt s (at + len + (n * 32 + 16)) 8) m
           → let next = at + len + (n * 32 + 28) + (m * 8 + 8) in
-          outcomeOfPlaces (At (record { preamble = at; «preamble_len» = len; body = at + len; «body_len» = next - (at + len); lists = lists; next = next })) ≡ findBy (before66 version) at s
+          outcomeOfPlaces (At (record { preamble = at; «preamble_len» = len; lists = lists; next = next })) ≡ findBy (before66 version) at s
       unfolding findBy outcome
       whole v e = rw (to-tail, parse-tail s (bytes s at len) n (at + len) (at + len + (n * 32 + 28)), ← hm, le-leb _ _ v, there s at len (omega arith), e)
 

@@ -48,12 +48,11 @@ module _ (size : ℕ) (s : List ℕ) (at : ℕ) where
       wrong h = rw (← whole, ← h)
 
       pub found : {lists : Lists} → ok lists ≡ judgeBody (at + 136) preamble body
-          → outcomeOfPlaces (At (record { preamble = at; «preamble_len» = 136; body = at + 136; «body_len» = size; lists = lists; next = at + 136 + size })) ≡ findCounted size at s
+          → outcomeOfPlaces (At (record { preamble = at; «preamble_len» = 136; lists = lists; next = at + 136 + size })) ≡ findCounted size at s
       unfolding eventIn
       found h =
           let len : length preamble ≡ 136 = rw hp (there s at 136 t) in
-          let rest : at + 136 + size - (at + 136) ≡ size = omega arith in
-          rw (← whole, ← h, len, rest)
+          rw (← whole, ← h, len)
 
   -- the reader is what was found, and then the room
   pub counted-then : (capacities : List ℕ) → thenIfFits s (findCounted size at s) capacities ≡ readCounted size capacities at s

@@ -135,8 +135,6 @@ fn find_counted(run: &[u8], at: u64, body_size: u32) -> PlacesAnswer
                     return PlacesAnswer::At(Places {
                         preamble: at,
                         preamble_len: 136,
-                        body: at + 136,
-                        body_len: size,
                         lists,
                         next: at + 136 + size,
                     });

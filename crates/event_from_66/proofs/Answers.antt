@@ -54,9 +54,8 @@ module _ (primary dependent : ℕ) where
       -- the places that are answered, from what the code has in hand
       pub found : {body : List ℕ} {isT : Bool} {lists : Lists} → body ≡ bytes s (at + 136) size → isT ≡ (not (eqb primary dependent) && not isP) → size ≤ remaining s (at + 136)
           → lists ≡ listsFrom66 preamble body isT
-          → outcomeOfPlaces (At (record { preamble = at; «preamble_len» = 136; body = at + 136; «body_len» = size; lists = lists; next = at + 136 + size })) ≡ findBy (from66 primary dependent) at s
+          → outcomeOfPlaces (At (record { preamble = at; «preamble_len» = 136; lists = lists; next = at + 136 + size })) ≡ findBy (from66 primary dependent) at s
       unfolding eventIn
       found hb ht u e =
           let len : length preamble ≡ 136 = rw hp (there s at 136 t) in
-          let rest : at + 136 + size - (at + 136) ≡ size = omega arith in
-          rw (len, rest, ← hq, ← ht, ← e) at (both-there (bodySize primary dependent) answers s at t hp size-is u hb) ∙ by-parts
+          rw (len, ← hq, ← ht, ← e) at (both-there (bodySize primary dependent) answers s at t hp size-is u hb) ∙ by-parts

@@ -81,8 +81,6 @@ pub fn find_from_66(run: &[u8], at: u64, body_primary: u32, body_dependent: u32)
             return PlacesAnswer::At(Places {
                 preamble: at,
                 preamble_len: 136,
-                body: at + 136,
-                body_len: size,
                 lists,
                 next: at + 136 + size,
             });

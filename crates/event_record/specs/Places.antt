@@ -24,18 +24,18 @@ eventIn preamble body lists =
       coefficients = each (λ i. wordAt body (lists .«coefficients_at» + i * 8) 8) (lists .coefficients);
     }
 
--- the event at places of the run
+-- the event at places of the run: its body is all that follows its preamble
 abbrev pub eventAt : List ℕ → Places → Event
-eventAt run p = eventIn (bytes run (p .preamble) (p .«preamble_len»)) (bytes run (p .body) (p .«body_len»)) (p .lists)
+eventAt run p =
+    let body = p .preamble + p .«preamble_len» in
+    eventIn (bytes run (p .preamble) (p .«preamble_len»)) (bytes run body (p .next - body)) (p .lists)
 
 abbrev pub withLists : List ℕ → List ℕ → Lists → Event × Lists
 withLists preamble body lists = (eventIn preamble body lists, lists)
 
--- the places of an event that starts at `at` and ends at `next`: its body is all that follows its preamble
+-- the places of an event that starts at `at` and ends at `next`
 abbrev pub placesOf : ℕ → Event × Lists → ℕ → Places
-placesOf at v next =
-    let middle = at + length (v .0 .preamble) in
-    record { preamble = at; «preamble_len» = length (v .0 .preamble); body = middle; «body_len» = next - middle; lists = v .1; next = next }
+placesOf at v next = record { preamble = at; «preamble_len» = length (v .0 .preamble); lists = v .1; next = next }
 
 -- what finding it answers, by its layout
 unfoldable pub findBy : Parser (Event × Lists) → ℕ → List ℕ → Outcome Places

@@ -41,12 +41,10 @@ pub struct Lists {
     pub window: FoundWindow,
 }
 
-// An event that was found: where its preamble and its body stand in the run, and the place after it.
+// An event that was found: where its preamble stands in the run, and the place after it. Its body is all that follows the preamble.
 pub struct Places {
     pub preamble: u64,
     pub preamble_len: u64,
-    pub body: u64,
-    pub body_len: u64,
     pub lists: Lists,
     pub next: u64,
 }

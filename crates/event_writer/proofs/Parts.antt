@@ -30,3 +30,14 @@ module _ (s : List ℕ) (at n : ℕ) (few : length s < 2 ^ 63) {from to sum : �
       take-all (to - at) (drop at s) few ∙ sym (take-all n (drop at s) most))
       (le-or-lt (at + n) (length s))))
       (le-or-lt (length s) at)
+
+-- the bytes up to `to` from a sum on that stops at the largest place: after the run's end there are none
+pub after-saturated : (s : List ℕ) (at to : ℕ) → length s < 2 ^ 63 → {sum n : ℕ} → sum ≡ min at (2 ^ 64 - 1) → n ≡ to - sum → bytes s sum n ≡ bytes s at (to - at)
+after-saturated s at to few {sum} {n} es en =
+    ⊎-elim
+    (λ (h : at ≤ 2 ^ 64 - 1). let e : sum ≡ at = omega arith in rw (en, e))
+    (λ (h : 2 ^ 64 - 1 < at).
+    let last : length s ≤ sum = omega arith in
+    let past : length s ≤ at = omega arith in
+    rw (drop-of-length-le s last, drop-of-length-le s past, take-nil, take-nil))
+    (le-or-lt at (2 ^ 64 - 1))

@@ -20,6 +20,7 @@ use lists::holds;
 use reader::copy_bytes;
 use reader::copy_u64s;
 use reader::saturating_add;
+use reader::saturating_sub;
 use reader::smaller;
 use refusal::Refusal;
 
@@ -116,13 +117,13 @@ pub fn write_event(
         (outcomeOf r) (now (preamble .exit) ∷ now (precursors .exit) ∷ now (energies .exit) ∷ now (coefficients .exit) ∷ []) ⌝ }
 {
     let from = within(run, p.preamble);
-    let middle = within(run, saturating_add(p.preamble, p.preamble_len));
-    let start = within(run, p.body);
-    let end = within(run, saturating_add(p.body, p.body_len));
+    let body = saturating_add(p.preamble, p.preamble_len);
+    let middle = within(run, body);
+    let end = within(run, saturating_add(body, saturating_sub(p.next, body)));
     let lists = p.lists;
     write_if_fits(
         &run[from..middle],
-        &run[start..end],
+        &run[middle..end],
         lists,
         p.next,
         preamble,

@@ -41,7 +41,7 @@ fn print_scan(tray: &[u8], h: TrayHeader, k: u32, at: u64) -> u64
     ensures { λ r. ⌜ r ≡ walkedPlace h (suc k) (drop 32 (now (tray .entry))) ⌝ }
 {
     let mut out = [0u8; 57344];
-    let listed = list_scan(&tray[32..], h, k, at, &mut out);
+    let listed = list_scan(&tray[32..], at, h, k, &mut out);
     let answer = listed.written;
     print(&out, answer);
     listed.next

@@ -23,7 +23,7 @@ use Rattle.float_bits.specs.Numbers.{largestMass}
 use Rattle.listing_lines.specs.Decimal.{digit}
 use Rattle.listing_lines.specs.Internal.{decimalBy}
 use Rattle.listing_lines.specs.Lines.{decimal, hexadecimal, trayLine, scanLines}
-use Rattle.tray_header.specs.Header.{header, judged, readTrayHeader}
+use Rattle.tray_header.specs.Header.{header, judged, readHeader}
 use Rattle.tray_data.specs.Data.{scanData, pairs}
 use Rattle.tray_scan.specs.Scan.{entryIn, scanParts, scanIfFits}
 use Rattle.tray.specs.Scan.{headerWith, readScan}
@@ -43,5 +43,5 @@ run =
 
 pub worked-case : listing (words ++ run)
     ≡ ascii "T 8 1" ++ 10 ∷ (ascii "S 0 1 0" ++ 10 ∷ (ascii "5000313 4000000000000000" ++ 10 ∷ []))
-unfolding ofBits toBits ofInt round eq lt le each over parse repeat outcome sizeForVersion formatOf layout describe reaction before66 eventLayout event counted peaksFrom attempt attempts flatPeaks peak peakPairs scaled tenThousandths largestMass digit decimalBy decimal hexadecimal trayLine scanLines header judged readTrayHeader scanData pairs entryIn scanParts listsAndPairsIfFit scanIfFits headerWith readScan scansText listing
+unfolding ofBits toBits ofInt round eq lt le each over parse repeat outcome sizeForVersion formatOf layout describe reaction before66 eventLayout event counted peaksFrom attempt attempts flatPeaks peak peakPairs scaled tenThousandths largestMass digit decimalBy decimal hexadecimal trayLine scanLines header judged readHeader scanData pairs entryIn scanParts listsAndPairsIfFit scanIfFits headerWith readScan scansText listing
 worked-case = refl

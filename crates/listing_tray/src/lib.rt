@@ -31,7 +31,7 @@ pub fn list_header(header: TrayHeaderAnswer, out: &mut [u8]) -> CountAnswer
 }
 
 // The lines of scan k of a run, whose event stands at this place.
-pub fn list_scan(run: &[u8], h: TrayHeader, k: u32, at: u64, out: &mut [u8]) -> ListedScan
+pub fn list_scan(run: &[u8], at: u64, h: TrayHeader, k: u32, out: &mut [u8]) -> ListedScan
     ensures { λ r. ⌜ LeftList (scanText k (scanAt capacities h k at (now (run .entry)))) (now (out .entry)) (r .written) (now (out .exit)) ⌝ }
     ensures { λ r. ⌜ r .next ≡ placeOrEnd (endIn h at (now (run .entry))) ⌝ }
 {
@@ -43,9 +43,9 @@ pub fn list_scan(run: &[u8], h: TrayHeader, k: u32, at: u64, out: &mut [u8]) -> 
     let mut intensity = [0.0f64; 2048];
     let read = scan_at(
         run,
+        at,
         h,
         k,
-        at,
         &mut preamble,
         &mut precursors,
         &mut energies,

@@ -18,7 +18,7 @@ use Rattle.packet_record.specs.declared.PacketProfile.the-variants.{Absent, Pre
 use Rattle.packet_record.specs.declared.PacketPlaces.{PacketPlaces}
 use Rattle.packet_record.specs.declared.ScanDataPacket.{ScanDataPacket}
 use Rattle.packet_full.specs.Full.{chunkLists}
-use Rattle.packet_full.specs.Internal.{chunksAt, ProfileThere, HasChunks, chunkCount, pointCount}
+use Rattle.packet_full.specs.Internal.{chunksAt, ProfileThere, HasChunks, chunkCount, pointCount, chunkSizes}
 use Rattle.packet_full.proofs.Writing.{signals-size}
 
 -- chunks that are there are as many as the profile says
@@ -29,18 +29,16 @@ chunk-counts (Present p) s t = (length-parsed (chunk (p .fudged)) (p .«peak_cou
 abbrev pub chunkRoom : List Chunk → List ℕ → List ℕ → List ℕ → List ℕ → Bool
 chunkRoom cs b n f w = fits (lengths (chunkLists cs)) (lengths (b ∷ n ∷ f ∷ w ∷ []))
 
--- so the tests of their slices go by the profile
-pub tested : (p : PacketProfile) (s b c f v : List ℕ) → ProfileThere p s → {n k : ℕ} → n ≡ chunkCount p → k ≡ pointCount p
-    → {one two three four : Bool} → one ≡ (leb k (length v) && true) → two ≡ (leb n (length f) && one) → three ≡ (leb n (length c) && two) → four ≡ (leb n (length b) && three)
-    → four ≡ chunkRoom (chunksAt p s) b c f v
-tested p s b c f v t hn hk e g h i =
+-- so the test of their slices goes by the profile
+pub tested : (p : PacketProfile) (s b c f v : List ℕ) → ProfileThere p s → {room : Bool} → room ≡ fits (chunkSizes p) (lengths (b ∷ c ∷ f ∷ v ∷ [])) → room ≡ chunkRoom (chunksAt p s) b c f v
+tested p s b c f v t e =
     let cs = chunksAt p s in
-    let size = chunk-counts p s t .0 ∙ sym hn in
+    let size = chunk-counts p s t .0 in
     let bins = length-map cs (λ k. k .firstBin) ∙ size in
     let counts = length-map cs points ∙ size in
     let fudges = length-map cs (λ k. k .fudge) ∙ size in
-    let signal = signals-size cs ∙ chunk-counts p s t .1 ∙ sym hk in
-    i ∙ rw (h, g, e, bins, counts, fudges, signal)
+    let signal = signals-size cs ∙ chunk-counts p s t .1 in
+    e ∙ rw (bins, counts, fudges, signal)
 
 pub has-chunks : (p : PacketProfile) (s b c f v : List ℕ) → ProfileThere p s → chunkRoom (chunksAt p s) b c f v ≡ true → HasChunks p s b c f v
 has-chunks Absent s b c f v t h = tt

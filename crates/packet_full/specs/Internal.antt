@@ -1,7 +1,7 @@
 -- A profile whose chunks are there. No public promise cites it.
 use mathlib.Core.Path.{_≡_}
 use Prim.Native.Nat.{ℕ, _≤_}
-use mathlib.Core.List.{List, []}
+use mathlib.Core.List.{List, [], _∷_}
 use lib.ListN.{length}
 use Rattle.parser.specs.Parser.{Parsed, short, parsed, parse, repeat}
 use Rattle.parser.specs.Walk.{sum}
@@ -51,3 +51,6 @@ chunkCount (Present p) = p .«peak_count»
 abbrev pub pointCount : PacketProfile → ℕ
 pointCount Absent = 0
 pointCount (Present p) = p .points
+
+abbrev pub chunkSizes : PacketProfile → List ℕ
+chunkSizes p = chunkCount p ∷ chunkCount p ∷ chunkCount p ∷ pointCount p ∷ []

@@ -1,10 +1,10 @@
 // A whole packet: profile, peaks and labels (`ScanDataPacket::read` of scan_data.rs).
 ghost use mathlib.Core.Path.{_≡_};
 ghost use mathlib.Core.List.{[], _∷_};
-ghost use Rattle.lists.specs.Left.{overAll, LeftLists};
-ghost use Rattle.packet_record.specs.Packet.{contentsAt, packetIfFits, withNodes};
+ghost use Rattle.lists.specs.Left.{fits, overAll, LeftLists};
+ghost use Rattle.packet_record.specs.Packet.{withNodes};
 ghost use Rattle.packet_full.specs.Full.{chunkLists, readPacket};
-ghost use Rattle.packet_full.specs.Internal.{ChunksThere, HasChunks, ProfileThere, chunkList, chunksAt, chunkCount, pointCount};
+ghost use Rattle.packet_full.specs.Internal.{ChunksThere, HasChunks, chunkList, chunksAt, chunkCount, pointCount, chunkSizes};
 use lists::holds;
 use packet_places::find_places;
 use packet_profile::Profile;
@@ -14,6 +14,7 @@ use packet_record::PacketAnswer;
 use packet_record::PacketPlaces;
 use packet_record::PacketPlacesAnswer;
 use packet_record::PacketProfile;
+use packet_record::write_packet;
 use reader::copy_u32s;
 use reader::u32_at;
 use refusal::Refusal;
@@ -72,6 +73,16 @@ fn chunk_counts(profile: PacketProfile) -> ChunkCounts
     }
 }
 
+// Whether slices of these lengths hold the lists of a profile's chunks.
+fn chunks_fit(profile: PacketProfile, bins: u64, counts: u64, fudges: u64, signal: u64) -> bool
+    ensures { λ r. ⌜ r ≡ fits (chunkSizes profile) (bins ∷ counts ∷ fudges ∷ signal ∷ []) ⌝ }
+{
+    let wanted = chunk_counts(profile);
+    let n = wanted.chunks;
+    let values_fit = holds(n, fudges, holds(wanted.points, signal, true));
+    holds(n, bins, holds(n, counts, values_fit))
+}
+
 // The lists of a profile's chunks, if there is one.
 fn write_profile(
     run: &[u8],
@@ -88,50 +99,6 @@ fn write_profile(
     match profile {
         PacketProfile::Absent => {}
         PacketProfile::Present(p) => write_chunks(run, p, bins, counts, fudges, signal),
-    }
-}
-
-// A packet whose places are known, and whose profile is there, where all eight slices hold it.
-fn write_with_chunks(
-    run: &[u8],
-    places: PacketPlaces,
-    mz: &mut [u64],
-    abundance: &mut [u32],
-    descriptors: &mut [u32],
-    resolutions: &mut [u32],
-    bins: &mut [u32],
-    counts: &mut [u32],
-    fudges: &mut [u32],
-    signal: &mut [u32],
-) -> PacketAnswer
-    requires { ⌜ ProfileThere (places .profile) (now run) ⌝ }
-    ensures { λ r. ⌜ LeftLists (λ c. packetIfFits c places (contentsAt (now (run .entry)) places) (chunkLists (chunksAt (places .profile) (now (run .entry)))))
-        (now (mz .entry) ∷ now (abundance .entry) ∷ now (descriptors .entry) ∷ now (resolutions .entry) ∷ now (bins .entry) ∷ now (counts .entry) ∷ now (fudges .entry) ∷ now (signal .entry) ∷ [])
-        (withNodes (now (run .entry)) r)
-        (now (mz .exit) ∷ now (abundance .exit) ∷ now (descriptors .exit) ∷ now (resolutions .exit) ∷ now (bins .exit) ∷ now (counts .exit) ∷ now (fudges .exit) ∷ now (signal .exit) ∷ []) ⌝ }
-{
-    let profile = places.profile;
-    let wanted = chunk_counts(profile);
-    let n = wanted.chunks;
-    let values_fit = holds(
-        n,
-        fudges.len() as u64,
-        holds(wanted.points, signal.len() as u64, true),
-    );
-    if holds(
-        n,
-        bins.len() as u64,
-        holds(n, counts.len() as u64, values_fit),
-    ) {
-        match packet_record::write_packet(run, places, mz, abundance, descriptors, resolutions) {
-            PacketAnswer::Refused(r) => PacketAnswer::Refused(r),
-            PacketAnswer::Packet(packet) => {
-                write_profile(run, profile, bins, counts, fudges, signal);
-                PacketAnswer::Packet(packet)
-            }
-        }
-    } else {
-        PacketAnswer::Refused(Refusal::NoRoom)
     }
 }
 
@@ -155,17 +122,25 @@ pub fn read_packet(
 {
     match find_places(run, at) {
         PacketPlacesAnswer::Refused(r) => PacketAnswer::Refused(r),
-        PacketPlacesAnswer::Places(places) => write_with_chunks(
-            run,
-            places,
-            mz,
-            abundance,
-            descriptors,
-            resolutions,
-            bins,
-            counts,
-            fudges,
-            signal,
-        ),
+        PacketPlacesAnswer::Places(places) => {
+            let profile = places.profile;
+            if chunks_fit(
+                profile,
+                bins.len() as u64,
+                counts.len() as u64,
+                fudges.len() as u64,
+                signal.len() as u64,
+            ) {
+                match write_packet(run, places, mz, abundance, descriptors, resolutions) {
+                    PacketAnswer::Refused(r) => PacketAnswer::Refused(r),
+                    PacketAnswer::Packet(packet) => {
+                        write_profile(run, profile, bins, counts, fudges, signal);
+                        PacketAnswer::Packet(packet)
+                    }
+                }
+            } else {
+                PacketAnswer::Refused(Refusal::NoRoom)
+            }
+        }
     }
 }

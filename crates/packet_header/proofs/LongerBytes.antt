@@ -7,17 +7,17 @@ use Rattle.parser.specs.LongerBytes.{OnLongerBytes}
 use Rattle.parser.proofs.Completion.{ValueInvariant, invariant-word}
 use Rattle.parser.proofs.DemandBound.{DemandBound, Any, demand-sized, demand-known}
 use Rattle.parser.proofs.Records.{OnePart, record-part}
-use Rattle.packet_header.specs.Header.{header, readHeader, outcomeOf}
+use Rattle.packet_header.specs.Header.{header, readPacketHeader, outcomeOf}
 use Rattle.packet_header.specs.declared.PacketHeader.{PacketHeader}
 use Rattle.packet_header.proofs.Size.{header-sized}
 use Rattle.packet_header.proofs.OneAnswer.{header-answer-one}
 
-pub header-part : (at : ℕ) → OnePart outcomeOf 4 at (readHeader at)
-unfolding readHeader
+pub header-part : (at : ℕ) → OnePart outcomeOf 4 at (readPacketHeader at)
+unfolding readPacketHeader
 header-part at = record-part 4 at header (λ h _. ok h) 40 header-sized outcomeOf header-answer-one (lit≤ tt) (λ _ _. tt)
 
 -- the terms' sentences, on what `PacketHeader::read` answers
-pub header-longer : (at : ℕ) → OnLongerBytes outcomeOf (λ s r (_ : Unit {0}). outcomeOf r ≡ readHeader at s) (λ q. q ≡ 4) (λ _ _. at < 2 ^ 62)
+pub header-longer : (at : ℕ) → OnLongerBytes outcomeOf (λ s r (_ : Unit {0}). outcomeOf r ≡ readPacketHeader at s) (λ q. q ≡ 4) (λ _ _. at < 2 ^ 62)
 header-longer at = header-part at .longer
 
 -- sizes that were read are below 2^32

@@ -33,8 +33,8 @@ header = do
   })
 
 -- what `PacketHeader::read` answers: the header, or that the data, part 4, ran out
-unfoldable pub readHeader : ℕ → List ℕ → Outcome PacketHeader
-readHeader at run = outcome (single 4 at header (λ h _. ok h)) run
+unfoldable pub readPacketHeader : ℕ → List ℕ → Outcome PacketHeader
+readPacketHeader at run = outcome (single 4 at header (λ h _. ok h)) run
 
 abbrev pub outcomeOf : HeaderAnswer → Outcome PacketHeader
 outcomeOf (answer.Header h) = ok h

@@ -3,7 +3,7 @@ ghost use mathlib.Core.Path.{_≡_};
 ghost use Prim.Native.Nat.{_≤_};
 ghost use Rattle.parser.specs.Parser.{remaining};
 ghost use Rattle.parser.specs.Internal.{value};
-ghost use Rattle.packet_header.specs.Header.{header, readHeader, outcomeOf};
+ghost use Rattle.packet_header.specs.Header.{header, readPacketHeader, outcomeOf};
 use reader::remaining;
 use reader::u32_at;
 use refusal::Part;
@@ -46,7 +46,7 @@ fn fields(run: &[u8], at: u64) -> PacketHeader
 impl PacketHeader {
     // The header at a place of the run.
     pub fn read(run: &[u8], at: u64) -> HeaderAnswer
-        ensures { λ r. ⌜ outcomeOf r ≡ readHeader at (now (run .entry)) ⌝ }
+        ensures { λ r. ⌜ outcomeOf r ≡ readPacketHeader at (now (run .entry)) ⌝ }
     {
         if 40 <= remaining(run, at) {
             return HeaderAnswer::Header(fields(run, at));

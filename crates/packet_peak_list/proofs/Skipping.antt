@@ -10,7 +10,7 @@ use Rattle.parser.specs.Call.{outcome}
 use Rattle.parser.proofs.Fixed.{parse-sized}
 use Rattle.parser.proofs.Prefix.{within-parsed, parse-bind, bind-parsed}
 use Rattle.parser.proofs.Answered.{found, ran-out}
-use Rattle.packet_header.specs.Header.{header, readHeader}
+use Rattle.packet_header.specs.Header.{header, readPacketHeader}
 use Rattle.packet_header.specs.declared.PacketHeader.{PacketHeader}
 use Rattle.packet_header.proofs.Size.{header-sized, header-read, header-ran-out}
 use Rattle.lists.specs.Left.{pairsIfFit}
@@ -32,11 +32,11 @@ unfoldable pub rest : PacketHeader → Parser (PacketHeader × List Peak)
 rest h = skip (h .«profile_size» * 4) >> (peakList h >>= paired h)
 
 module _ (s : List ℕ) (at : ℕ) where
-  pub skip-header-short : {n : ℕ} {carries : List ℕ} → refused n carries ≡ readHeader at s → ranOut 4 ≡ skipToPeaks at s
+  pub skip-header-short : {n : ℕ} {carries : List ℕ} → refused n carries ≡ readPacketHeader at s → ranOut 4 ≡ skipToPeaks at s
   unfolding skipToPeaks outcome skipping rest
   skip-header-short e = rw (parse-bind header rest s at, header-ran-out s at e)
 
-  module _ {h : PacketHeader} (e : ok h ≡ readHeader at s) where
+  module _ {h : PacketHeader} (e : ok h ≡ readPacketHeader at s) where
     to-rest : parse skipping s at ≡ parse (rest h) s (at + 40)
     unfolding skipping rest
     to-rest = parse-bind header rest s at ∙ rw (header-read s at e .1)

@@ -10,7 +10,7 @@ use Rattle.packet_labels.specs.declared.Labels.{Labels}
 use Rattle.parser.specs.Parser.{parsed, parse}
 use Rattle.parser.specs.Call.{outcome}
 use Rattle.parser.proofs.Answered.{RanOut, ran-out}
-use Rattle.packet_header.specs.Header.{readHeader}
+use Rattle.packet_header.specs.Header.{readPacketHeader}
 use Rattle.packet_header.specs.declared.PacketHeader.{PacketHeader}
 use Rattle.packet_peak_list.specs.PeakList.{readPeaks}
 use Rattle.packet_peak_list.specs.declared.PeakList.{PeakList}
@@ -36,11 +36,11 @@ module _ (s : List ℕ) (at : ℕ) where
   unfolding inTurn afterHeader
   stage-short {n} {carries} i =
       ⊎-elim
-      (λ (e : refused n carries ≡ readHeader at s). header-short s at e)
-      (λ (b : Both (readHeader at s) (λ h. afterHeader h at s) (refused n carries)). beyond (b .value) (b .first) (b .second))
-      (one-refused (λ h. afterHeader h at s) (readHeader at s) i)
+      (λ (e : refused n carries ≡ readPacketHeader at s). header-short s at e)
+      (λ (b : Both (readPacketHeader at s) (λ h. afterHeader h at s) (refused n carries)). beyond (b .value) (b .first) (b .second))
+      (one-refused (λ h. afterHeader h at s) (readPacketHeader at s) i)
     where
-      last : (h : PacketHeader) → ok h ≡ readHeader at s → (p : PacketProfile × ℕ) → ok p ≡ findProfile h at s
+      last : (h : PacketHeader) → ok h ≡ readPacketHeader at s → (p : PacketProfile × ℕ) → ok p ≡ findProfile h at s
           → refused n carries ≡ andThen (readPeaks h (p .1) s) (λ list. withLabels h (p .0) list s) → RanOut 4 packet s at n carries
       last h e p f j =
           ⊎-elim
@@ -48,7 +48,7 @@ module _ (s : List ℕ) (at : ℕ) where
           (λ (b : Both (readPeaks h (p .1) s) (λ list. withLabels h (p .0) list s) (refused n carries)). labels-short s at h e (p .0) (p .1) f (b .value) (b .first) (b .second))
           (one-refused (λ list. withLabels h (p .0) list s) (readPeaks h (p .1) s) j)
 
-      beyond : (h : PacketHeader) → ok h ≡ readHeader at s
+      beyond : (h : PacketHeader) → ok h ≡ readPacketHeader at s
           → refused n carries ≡ andThen (findProfile h at s) (λ p. andThen (readPeaks h (p .1) s) (λ list. withLabels h (p .0) list s)) → RanOut 4 packet s at n carries
       beyond h e j =
           ⊎-elim
@@ -68,7 +68,7 @@ module _ (s : List ℕ) (at : ℕ) where
   stages-stand : {v : PacketPlaces} {l : Streams} → ok (v, l) ≡ inTurn at s → Standing v
   unfolding inTurn afterHeader
   stages-stand {v} i =
-      let a = both-ok (λ h. afterHeader h at s) (readHeader at s) i in
+      let a = both-ok (λ h. afterHeader h at s) (readPacketHeader at s) i in
       let b = both-ok (λ p. andThen (readPeaks (a .value) (p .1) s) (λ list. withLabels (a .value) (p .0) list s)) (findProfile (a .value) at s) (a .second) in
       let p = b .value in
       let c = both-ok (λ list. withLabels (a .value) (p .0) list s) (readPeaks (a .value) (p .1) s) (b .second) in

@@ -12,7 +12,7 @@ use Rattle.parser.specs.Parser.{Parser, done, parsed, parse, _>>=_}
 use Rattle.parser.specs.Call.{outcome}
 use Rattle.parser.proofs.Prefix.{parse-bind, bind-parsed}
 use Rattle.parser.proofs.Answered.{found, RanOut, ran-out}
-use Rattle.packet_header.specs.Header.{header, readHeader}
+use Rattle.packet_header.specs.Header.{header, readPacketHeader}
 use Rattle.packet_header.specs.declared.PacketHeader.{PacketHeader}
 use Rattle.packet_header.proofs.Size.{header-read}
 use Rattle.peaks.specs.Peaks.{Peak, peaksAt}
@@ -99,17 +99,17 @@ optional-end h s place (present p) next e = profile-end (h .layout) s place (pre
 
 -- from the stages to the whole
 module _ (s : List ℕ) (at : ℕ) where
-  to-rest : {h : PacketHeader} → ok h ≡ readHeader at s → parse packet s at ≡ parse (rest h) s (at + 40)
+  to-rest : {h : PacketHeader} → ok h ≡ readPacketHeader at s → parse packet s at ≡ parse (rest h) s (at + 40)
   unfolding packet rest afterProfile
   to-rest e = parse-bind header rest s at ∙ rw (header-read s at e .1)
 
-  pub header-short : {n : ℕ} {carries : List ℕ} → refused n carries ≡ readHeader at s → RanOut 4 packet s at n carries
-  unfolding packet rest afterProfile readHeader
+  pub header-short : {n : ℕ} {carries : List ℕ} → refused n carries ≡ readPacketHeader at s → RanOut 4 packet s at n carries
+  unfolding packet rest afterProfile readPacketHeader
   header-short e =
       let r = ran-out 4 at header (λ (v : PacketHeader) _. v) s e in
       record { there = parse-bind header rest s at ∙ rw (r .there); one = r .one; part = r .part }
 
-  module _ (h : PacketHeader) (e : ok h ≡ readHeader at s) where
+  module _ (h : PacketHeader) (e : ok h ≡ readPacketHeader at s) where
     -- the profile that was found
     pub record ProfileFound (p : PacketProfile) (next : ℕ) : Type 0 where
       pub profile : OptionalProfile

@@ -4,7 +4,7 @@ use mathlib.Core.List.{List}
 use Rattle.refusal.specs.Outcome.{Outcome, ok, andThen}
 use Rattle.refusal.specs.Number.{outcomeOfRefusal}
 use Rattle.parser.specs.Call.{outcome, single}
-use Rattle.packet_header.specs.Header.{readHeader}
+use Rattle.packet_header.specs.Header.{readPacketHeader}
 use Rattle.packet_header.specs.declared.PacketHeader.{PacketHeader}
 use Rattle.packet_peak_list.specs.PeakList.{readPeaks}
 use Rattle.packet_labels.specs.Labels.{Streams}
@@ -27,4 +27,4 @@ unfoldable pub afterHeader : PacketHeader → ℕ → List ℕ → Outcome (Pack
 afterHeader h at s = andThen (findProfile h at s) (λ p. andThen (readPeaks h (p .1) s) (λ list. withLabels h (p .0) list s))
 
 unfoldable pub inTurn : ℕ → List ℕ → Outcome (PacketPlaces × Streams)
-inTurn at s = andThen (readHeader at s) (λ h. afterHeader h at s)
+inTurn at s = andThen (readPacketHeader at s) (λ h. afterHeader h at s)

@@ -22,7 +22,7 @@ use Rattle.parser.proofs.PrefixedBy.{then-prefix, then-names, then-completes-on
 use Rattle.parser.proofs.OnLongerBytes.{plain-longer}
 use Rattle.event_record.specs.Event.{Event}
 use Rattle.events.specs.Event.{eventEnd, eventPlace}
-use Rattle.tray_header.specs.Header.{readTrayHeader}
+use Rattle.tray_header.specs.Header.{readHeader}
 use Rattle.tray_header.specs.declared.TrayHeader.{TrayHeader}
 use Rattle.tray_header.proofs.Found.{Words, whole, words}
 use Rattle.tray_header.proofs.LongerBytes.{header-prefix, header-names, header-completes}
@@ -75,20 +75,20 @@ module _ {A : Type 0} (header : List ℕ → Outcome TrayHeader) (H : HeaderCall
 module _ (limit number : ℕ) where
   -- the data of scan k start below 2^62, if the header and the entry say where; and a place that the caller gives does
   abbrev pub ScanNear : ℕ → ℕ → List ℕ → Type 0
-  ScanNear k q s = q ≡ 4 → (h : TrayHeader) → ok h ≡ readTrayHeader limit number s → DataNear h k (drop 32 s)
+  ScanNear k q s = q ≡ 4 → (h : TrayHeader) → ok h ≡ readHeader limit number s → DataNear h k (drop 32 s)
 
   abbrev pub FromNear : ℕ → ℕ → ℕ → List ℕ → Type 0
   FromNear k at q s = (q ≡ 3 → at < 2 ^ 62) × ScanNear k q s
 
   module _ (other : number ≡ 1 → ⊥) where
-    plain : HeaderCall (readTrayHeader limit number)
+    plain : HeaderCall (readHeader limit number)
     plain = record { prefix = header-prefix limit number; names = header-names limit number other; completes = header-completes limit number other; size = λ s h e. whole limit number s (sym e) .size }
 
     -- refusal 7 is no refusal 1
     with-scan : (k : ℕ) → HeaderCall (headerWith limit number k)
     unfolding headerWith
     with-scan k =
-        let f = readTrayHeader limit number in
+        let f = readHeader limit number in
         let g : TrayHeader → Outcome TrayHeader = λ h. cond (ltb k (h .scans)) (ok h) (refused 7 []) in
         let settled : (h : TrayHeader) → NotTruncated (g h) = λ h. not-truncated-cond (ltb k (h .scans)) (ok h) (refused 7 []) tt tt in
         record {

@@ -10,7 +10,7 @@ use Rattle.parser.specs.Call.{outcome}
 use Rattle.event_preamble.specs.Size.{sizeForVersion}
 use Rattle.event_before_66.specs.Layout.{reaction, before66}
 use Rattle.events.specs.Event.{layout as eventLayout, event, eventEnd, eventPlace}
-use Rattle.tray_header.specs.Header.{header, judged, readTrayHeader}
+use Rattle.tray_header.specs.Header.{header, judged, readHeader}
 use Rattle.tray.specs.Scan.{headerWith, eventOf, nextEvent}
 
 abbrev broken : List ℕ
@@ -19,18 +19,18 @@ broken =
     ∷ 2 ∷ 0 ∷ 0 ∷ 0 ∷ 0 ∷ 0 ∷ 0 ∷ 0 ∷ 0 ∷ 0 ∷ 0 ∷ 0 ∷ 0 ∷ 0 ∷ 0 ∷ 0 ∷ []
 
 pub event-1-broken : eventOf 4096 6 1 broken ≡ ranOut 3
-unfolding eventOf headerWith eventPlace readTrayHeader outcome parse header judged eventLayout event reaction before66 repeat counted sizeForVersion
+unfolding eventOf headerWith eventPlace readHeader outcome parse header judged eventLayout event reaction before66 repeat counted sizeForVersion
 event-1-broken = refl
 
 pub event-1-longer : eventOf 4096 6 1 (broken ++ replicate 77 0) ≡ ok 77
-unfolding eventOf headerWith eventPlace readTrayHeader outcome parse header judged eventLayout event reaction before66 repeat counted sizeForVersion
+unfolding eventOf headerWith eventPlace readHeader outcome parse header judged eventLayout event reaction before66 repeat counted sizeForVersion
 event-1-longer = refl
 
 pub next-broken : nextEvent 4096 6 0 broken ≡ ranOut 3
-unfolding nextEvent eventEnd readTrayHeader outcome parse header judged eventLayout event reaction before66 repeat counted sizeForVersion
+unfolding nextEvent eventEnd readHeader outcome parse header judged eventLayout event reaction before66 repeat counted sizeForVersion
 next-broken = refl
 
 -- no such scan
 pub event-2-none : eventOf 4096 6 2 broken ≡ refused 7 []
-unfolding eventOf headerWith eventPlace readTrayHeader outcome parse header judged
+unfolding eventOf headerWith eventPlace readHeader outcome parse header judged
 event-2-none = refl

@@ -11,7 +11,7 @@ use lib.Seq.{take-all}
 use borrow.Author.Tests.{lt-ltb, le-ltb, ltb-true}
 use Rattle.refusal.specs.Outcome.{ok, refused}
 use Rattle.refusal.proofs.Outcomes.{both-ok, ok-not-refused}
-use Rattle.tray_header.specs.Header.{readTrayHeader}
+use Rattle.tray_header.specs.Header.{readHeader}
 use Rattle.tray_header.specs.declared.TrayHeader.{TrayHeader}
 use Rattle.tray_header.proofs.Found.{whole}
 use Rattle.tray_scan.specs.Scan.{scanAt}
@@ -19,11 +19,11 @@ use Rattle.tray.specs.Scan.{headerWith, readScanFrom}
 
 module _ (limit number : ℕ) (s : List ℕ) where
   module _ (k : ℕ) where
-    pub no-header : {n : ℕ} {carries : List ℕ} → refused n carries ≡ readTrayHeader limit number s → refused n carries ≡ headerWith limit number k s
+    pub no-header : {n : ℕ} {carries : List ℕ} → refused n carries ≡ readHeader limit number s → refused n carries ≡ headerWith limit number k s
     unfolding headerWith
     no-header e = rw (← e)
 
-    module _ {h : TrayHeader} (e : ok h ≡ readTrayHeader limit number s) where
+    module _ {h : TrayHeader} (e : ok h ≡ readHeader limit number s) where
       pub no-scan : h .scans ≤ k → refused 7 [] ≡ headerWith limit number k s
       unfolding headerWith
       no-scan l = rw (← e, le-ltb k (h .scans) l)
@@ -34,16 +34,16 @@ module _ (limit number : ℕ) (s : List ℕ) where
 
     -- and back
     pub record Numbered (h : TrayHeader) : Type 0 where
-      pub header : ok h ≡ readTrayHeader limit number s
+      pub header : ok h ≡ readHeader limit number s
       pub below : k < h .scans
 
     pub numbered : {h : TrayHeader} → ok h ≡ headerWith limit number k s → Numbered h
     unfolding headerWith
     numbered {h} i =
-        let b = both-ok (λ (h : TrayHeader). cond (ltb k (h .scans)) (ok h) (refused 7 [])) (readTrayHeader limit number s) i in
+        let b = both-ok (λ (h : TrayHeader). cond (ltb k (h .scans)) (ok h) (refused 7 [])) (readHeader limit number s) i in
         go (b .value) (b .first) (ltb k (b .value .scans)) refl (b .second)
       where
-        go : (v : TrayHeader) → ok v ≡ readTrayHeader limit number s → (t : Bool) → ltb k (v .scans) ≡ t → ok h ≡ cond t (ok v) (refused 7 []) → Numbered h
+        go : (v : TrayHeader) → ok v ≡ readHeader limit number s → (t : Bool) → ltb k (v .scans) ≡ t → ok h ≡ cond t (ok v) (refused 7 []) → Numbered h
         go v f true t j = let same : h ≡ v = cc in record { header = rw same f; below = rw same (ltb-true k (v .scans) t) }
         go v f false t j = ok-not-refused j
 

@@ -1,6 +1,6 @@
 -- Going on from the event before gives the same answers: `event_of` says where event k stands, `next_event` leads from one to
 -- the next, and a scan read from there is the scan. Where event k has no place, any place after the end serves.
-use mathlib.Core.Path.{_≡_, refl, ap, sym}
+use mathlib.Core.Path.{_≡_, refl, ap, sym, _∙_}
 use Prim.Native.Nat.{ℕ, suc, _-_, _^_, _≤_, _<_}
 use native.Mathlib.Omega.{arith}
 use mathlib.Core.List.{List}
@@ -13,7 +13,7 @@ use Rattle.parser.proofs.Answered.{found, ran-out}
 use Rattle.event_record.specs.Event.{Event}
 use Rattle.events.specs.Event.{eventEnd, eventPlace}
 use Rattle.events.proofs.Steps.{place-none, place-more, none-after}
-use Rattle.tray_header.specs.Header.{readTrayHeader}
+use Rattle.tray_header.specs.Header.{readHeader}
 use Rattle.tray_header.specs.declared.TrayHeader.{TrayHeader}
 use Rattle.tray_scan.specs.Scan.{trayEvent, scanParts, scanIfFits, scanAt, placeOrEnd}
 use Rattle.tray_scan.proofs.Parts.{same-event}
@@ -49,16 +49,9 @@ module _ (h : TrayHeader) (k : ℕ) (s : List ℕ) where
   pub from-end : {n : ℕ} {carries : List ℕ} → refused n carries ≡ placeIn → (at : ℕ) → length s ≤ at → outcome (scanParts h k at (trayEvent h)) s ≡ outcome (scanParts h k (h .events) kth) s
   from-end i at far = same-event h k s at (h .events) (trayEvent h) kth (no-place i at far)
 
-  pub from-either : length s < 2 ^ 63 → outcome (scanParts h k (placeOrEnd placeIn) (trayEvent h)) s ≡ outcome (scanParts h k (h .events) kth) s
-  from-either few = go placeIn refl
-    where
-      go : (o : Outcome ℕ) → o ≡ placeIn → outcome (scanParts h k (placeOrEnd o) (trayEvent h)) s ≡ outcome (scanParts h k (h .events) kth) s
-      go (ok at) i = from-place i
-      go (refused n carries) i = from-end i (2 ^ 64 - 1) (omega arith)
-
 -- ---- in a tray, whatever its limit of scans is
 module _ (limit number : ℕ) (s : List ℕ) where
-  module _ {h : TrayHeader} (e : ok h ≡ readTrayHeader limit number s) where
+  module _ {h : TrayHeader} (e : ok h ≡ readHeader limit number s) where
     pub place-first : 0 < h .scans → eventOf limit number 0 s ≡ ok (h .events)
     unfolding eventOf
     place-first l = rw (← has-scan limit number s 0 e l) (place-none (h .version) (h .primary) (h .dependent) (drop 32 s) (h .events))
@@ -92,15 +85,16 @@ module _ (limit number : ℕ) (s : List ℕ) where
         let beyond : length (drop 32 s) ≤ at = simp length-drop (omega arith) in
         in-tray (refused n carries) (λ h j. from-end h k (drop 32 s) j at beyond) i
 
-  -- read at the place of event k, or after the end
-  module _ (capacities : List ℕ) (k : ℕ) where
-    pub no-header-no-scan : {n : ℕ} {carries : List ℕ} → refused n carries ≡ headerWith limit number k s → refused n carries ≡ readScan limit number capacities k s
-    unfolding readScan
-    no-header-no-scan i = rw (← i)
+  -- read at the place of event k, or where it has none at the largest place, which is after the end
+  pub from-either : (capacities : List ℕ) (k : ℕ) → length s < 2 ^ 63 → {at : ℕ} → at ≡ placeOrEnd (eventOf limit number k s) → readScanFrom limit number capacities k at s ≡ readScan limit number capacities k s
+  from-either capacities k few {at} e = go (eventOf limit number k s) refl e
+    where
+      go : (o : Outcome ℕ) → o ≡ eventOf limit number k s → at ≡ placeOrEnd o → readScanFrom limit number capacities k at s ≡ readScan limit number capacities k s
+      go (ok place) i e = rw e (from-event capacities k place i)
+      go (refused n carries) i e = no-event capacities k at i (omega arith)
 
-    pub scan-in : {h : TrayHeader} → ok h ≡ headerWith limit number k s → length s < 2 ^ 63 → {at : ℕ} → at ≡ placeOrEnd (placeIn h k (drop 32 s))
-        → scanAt capacities h k at (drop 32 s) ≡ readScan limit number capacities k s
-    unfolding readScan scanAt
-    scan-in {h} i few e =
-        let short : length (drop 32 s) < 2 ^ 63 = simp length-drop (omega arith) in
-        rw (e, ← i) (ap (λ o. andThen o (scanIfFits capacities)) (from-either h k (drop 32 s) short))
+  -- so in the run of a tray whose header was read
+  pub scan-in : (capacities : List ℕ) (k : ℕ) {h : TrayHeader} → ok h ≡ headerWith limit number k s → length s < 2 ^ 63 → {at : ℕ} → at ≡ placeOrEnd (placeIn h k (drop 32 s))
+      → scanAt capacities h k at (drop 32 s) ≡ readScan limit number capacities k s
+  unfolding eventOf readScanFrom scanAt
+  scan-in capacities k i few {at} e = rw (← i) at (from-either capacities k few {at = at} (e ∙ sym (rw (← i))))

@@ -8,7 +8,7 @@ use Rattle.refusal.specs.Outcome.{Outcome, ok, refused, andThen}
 use Rattle.parser.specs.Parser.{_>>_, repeat}
 use Rattle.parser.specs.Call.{outcome}
 use Rattle.events.specs.Event.{eventPlace}
-use Rattle.tray_header.specs.Header.{readTrayHeader}
+use Rattle.tray_header.specs.Header.{readHeader}
 use Rattle.tray_header.specs.declared.TrayHeader.{TrayHeader}
 use Rattle.tray_scan.specs.Scan.{trayEvent, scanParts, WrittenScan, scanIfFits, endIn}
 
@@ -20,7 +20,7 @@ overRun header call tray = andThen header (λ h. call h (drop 32 tray))
 module _ (limit number : ℕ) where
   -- the header of a tray that has a scan k, or refusal 7
   unfoldable pub headerWith : ℕ → List ℕ → Outcome TrayHeader
-  headerWith k tray = andThen (readTrayHeader limit number tray) (λ h. cond (ltb k (h .scans)) (ok h) (refused 7 []))
+  headerWith k tray = andThen (readHeader limit number tray) (λ h. cond (ltb k (h .scans)) (ok h) (refused 7 []))
 
   -- what `read_scan` answers: the events 0 to k stand where the header says
   unfoldable pub readScan : List ℕ → ℕ → List ℕ → Outcome WrittenScan
@@ -36,4 +36,4 @@ module _ (limit number : ℕ) where
   eventOf k tray = overRun (headerWith k tray) (λ h. eventPlace (h .version) (h .primary) (h .dependent) (h .events) k) tray
 
   unfoldable pub nextEvent : ℕ → List ℕ → Outcome ℕ
-  nextEvent at tray = overRun (readTrayHeader limit number tray) (λ h. endIn h at) tray
+  nextEvent at tray = overRun (readHeader limit number tray) (λ h. endIn h at) tray

@@ -54,9 +54,9 @@ pub fn read_scan_from(
         TrayHeaderAnswer::Header(h) => {
             let read = scan_at(
                 &tray[32..],
+                at,
                 h,
                 k,
-                at,
                 preamble,
                 precursors,
                 energies,
@@ -131,24 +131,16 @@ pub fn read_scan(
         (now (preamble .entry) ∷ now (precursors .entry) ∷ now (energies .entry) ∷ now (coefficients .entry) ∷ []) (now (mz .entry)) (now (intensity .entry))
         (outcomeOf r) (now (preamble .exit) ∷ now (precursors .exit) ∷ now (energies .exit) ∷ now (coefficients .exit) ∷ []) (now (mz .exit)) (now (intensity .exit)) ⌝ }
 {
-    match header_with(tray, k) {
-        TrayHeaderAnswer::Refused(r) => ScanAnswer::Refused(r),
-        TrayHeaderAnswer::Header(h) => {
-            let run = &tray[32..];
-            let at = place_or_end(find_place(run, h, k));
-            let read = scan_at(
-                run,
-                h,
-                k,
-                at,
-                preamble,
-                precursors,
-                energies,
-                coefficients,
-                mz,
-                intensity,
-            );
-            read.scan
-        }
-    }
+    let at = place_or_end(event_of(tray, k));
+    read_scan_from(
+        tray,
+        k,
+        at,
+        preamble,
+        precursors,
+        energies,
+        coefficients,
+        mz,
+        intensity,
+    )
 }

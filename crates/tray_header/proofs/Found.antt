@@ -14,7 +14,7 @@ use Rattle.parser.specs.LongerBytes.{Bytes}
 use Rattle.parser.proofs.Answered.{part-ok}
 use Rattle.parser.proofs.Records.{sized-read}
 use Rattle.parser.proofs.Completion.{ValueInvariant, invariant-word, invariant-parsed}
-use Rattle.tray_header.specs.Header.{header, judged, readTrayHeader}
+use Rattle.tray_header.specs.Header.{header, judged, readHeader}
 use Rattle.tray_header.specs.declared.TrayHeader.{TrayHeader}
 use Rattle.tray_header.proofs.Answers.{header-sized}
 
@@ -30,8 +30,8 @@ module _ (limit number : ℕ) (s : List ℕ) {h : TrayHeader} where
   taken v true false f i = ok-not-refused i
   taken v false b f i = ok-not-refused i
 
-  pub whole : ok h ≡ readTrayHeader limit number s → Whole limit s h
-  unfolding readTrayHeader judged
+  pub whole : ok h ≡ readHeader limit number s → Whole limit s h
+  unfolding readHeader judged
   whole i =
       let f = part-ok 1 0 header (λ v _. judged limit number v) s i in
       let v = f .value in

@@ -11,14 +11,14 @@ use Rattle.parser.specs.Call.{single}
 use Rattle.parser.specs.LongerBytes.{OnLongerBytes, PrefixProperty, Names, Completes}
 use Rattle.parser.proofs.Calls.{NotTruncated, not-truncated-cond, prefix-property}
 use Rattle.parser.proofs.Records.{OnePart, record-part}
-use Rattle.tray_header.specs.Header.{header, judged, readTrayHeader, readTrayHeader, outcomeOf}
+use Rattle.tray_header.specs.Header.{header, judged, readHeader, readTrayHeader, outcomeOf}
 use Rattle.tray_header.specs.declared.TrayHeader.{TrayHeader}
 use Rattle.tray_header.proofs.Answers.{header-sized}
 use Rattle.tray_header.proofs.OneAnswer.{header-answer-one}
 
 module _ (limit number : ℕ) where
-  pub header-prefix : PrefixProperty (readTrayHeader limit number)
-  unfolding readTrayHeader
+  pub header-prefix : PrefixProperty (readHeader limit number)
+  unfolding readHeader
   header-prefix = prefix-property (single 1 0 header (λ h _. judged limit number h))
 
   module _ (other : number ≡ 1 → ⊥) where
@@ -28,14 +28,14 @@ module _ (limit number : ℕ) where
         let one : T (not (eqb number 1)) = rw (ne-eqb number 1 other) tt in
         not-truncated-cond (leb (h .flat) 1) _ (refused 5 []) (not-truncated-cond (leb (h .scans) limit) (ok h) (refused number []) tt one) tt
 
-    pub header-part : OnePart outcomeOf 1 0 (readTrayHeader limit number)
-    unfolding readTrayHeader
+    pub header-part : OnePart outcomeOf 1 0 (readHeader limit number)
+    unfolding readHeader
     header-part = record-part 1 0 header (λ h _. judged limit number h) 32 header-sized outcomeOf header-answer-one (lit≤ tt) (λ h _. judged-not-truncated h)
 
-    pub header-names : Names (λ q. q ≡ 1) (readTrayHeader limit number)
+    pub header-names : Names (λ q. q ≡ 1) (readHeader limit number)
     header-names = header-part .names
 
-    pub header-completes : Completes 1 0 (readTrayHeader limit number)
+    pub header-completes : Completes 1 0 (readHeader limit number)
     header-completes = header-part .completes
 
 -- ---- at most 4,096 scans, or refusal 6

@@ -37,12 +37,12 @@ unfoldable pub judged : ℕ → ℕ → TrayHeader → Outcome TrayHeader
 judged limit number h = cond (leb (h .flat) 1) (cond (leb (h .scans) limit) (ok h) (refused number [])) (refused 5 [])
 
 -- the header, part 1, where at most `limit` scans are taken
-unfoldable pub readTrayHeader : ℕ → ℕ → List ℕ → Outcome TrayHeader
-readTrayHeader limit number tray = outcome (single 1 0 header (λ h _. judged limit number h)) tray
+unfoldable pub readHeader : ℕ → ℕ → List ℕ → Outcome TrayHeader
+readHeader limit number tray = outcome (single 1 0 header (λ h _. judged limit number h)) tray
 
 -- what `read_tray_header` answers: at most 4,096 scans, or refusal 6
 abbrev pub readTrayHeader : List ℕ → Outcome TrayHeader
-readTrayHeader = readTrayHeader 4096 6
+readTrayHeader = readHeader 4096 6
 
 abbrev pub outcomeOf : TrayHeaderAnswer → Outcome TrayHeader
 outcomeOf (answer.Header h) = ok h

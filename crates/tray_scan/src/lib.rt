@@ -146,9 +146,9 @@ fn next_place(event: PlacesAnswer) -> u64
 // Scan k, whose event stands at a place of the run.
 pub fn scan_at(
     run: &[u8],
+    at: u64,
     h: TrayHeader,
     k: u32,
-    at: u64,
     preamble: &mut [u8],
     precursors: &mut [u64],
     energies: &mut [u64],

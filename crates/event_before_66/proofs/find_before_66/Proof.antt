@@ -32,4 +32,4 @@ returns-4 : tie.Need-returns-4
 returns-4 c = short-head _ _ _ (omega (arith, c .before .before .size-for-version .ensures))
 
 pub find-before-66-spec : {M : Type 1} → statement M
-find-before-66-spec = tie.close (tie.spec (search needs) add-if1 (search needs) (search needs) (search needs) (search needs) (search needs) (search needs) (search needs) (search needs) (search needs) (search needs) (search needs) (search needs) (search needs) (search needs) (search needs) (search needs) (search needs) (search needs) (search needs) (search needs) (search needs) (search needs) (search needs) (search needs) returns returns-2 returns-3 returns-4)
+find-before-66-spec = tie.close (tie.spec (search needs) add-if1 (search needs) (search needs) (search needs) (search needs) (search needs) (search needs) (search needs) (search needs) (search needs) (search needs) (search needs) (search needs) (search needs) (search needs) (search needs) (search needs) (search needs) (search needs) (search needs) (search needs) (search needs) (search needs) (search needs) returns returns-2 returns-3 returns-4)

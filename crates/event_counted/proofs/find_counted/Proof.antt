@@ -27,4 +27,4 @@ returns-4 : tie.Need-returns-4
 returns-4 c = short-preamble _ _ _ (omega arith)
 
 pub find-counted-spec : {M : Type 1} → statement M
-find-counted-spec = tie.close (tie.spec (search needs) (search needs) (search needs) (search needs) (search needs) (search needs) (search needs) (search needs) (search needs) (search needs) (search needs) (search needs) (search needs) (search needs) returns (search needs) (search needs) (search needs) (search needs) returns-2 returns-3 returns-4)
+find-counted-spec = tie.close (tie.spec (search needs) (search needs) (search needs) (search needs) (search needs) (search needs) (search needs) (search needs) (search needs) (search needs) (search needs) (search needs) (search needs) (search needs) returns (search needs) (search needs) (search needs) returns-2 returns-3 returns-4)

@@ -2,7 +2,7 @@
 use native.Mathlib.Omega.{arith}
 use denote.Ref.{now}
 use lib.ListN.{length}
-use Rattle.event_coefficients.proofs.Place.{word-most}
+use Rattle.event_coefficients.proofs.Offset.{word-most}
 use Rattle.event_from_66.specs.Layout.{listsFrom66}
 use borrow.Author.Needs.{needs}
 use Rattle.event_from_66.proofs.lists_of.Statement.{statement}
