@@ -166,9 +166,8 @@ fn put_place(out: &mut [u8], n: usize, found: PeaksPlace) -> usize
 fn find_flat(rest: &[u8], data: &mut [u8], out: &mut [u8], n: usize) -> usize
     ensures { λ r. ⌜ r ≤ length (now (out .exit)) ⌝ }
 {
-    let place = request::number(rest, 0, U64);
-    let offset = request::number(rest, place.end, U64);
-    let size = request::number(rest, offset.end, U32);
+    let places = two_places(rest);
+    let size = request::number(rest, places.end, U32);
     let count = request::bytes(rest, size.end, data);
     if count.end != rest.len() {
         return answer::bad(out, n);
@@ -178,21 +177,20 @@ fn find_flat(rest: &[u8], data: &mut [u8], out: &mut [u8], n: usize) -> usize
     put_place(
         out,
         n,
-        find_flat_peaks(run, place.value, offset.value, size),
+        find_flat_peaks(run, places.data, places.offset, size),
     )
 }
 
 fn find_srm(rest: &[u8], data: &mut [u8], out: &mut [u8], n: usize) -> usize
     ensures { λ r. ⌜ r ≤ length (now (out .exit)) ⌝ }
 {
-    let place = request::number(rest, 0, U64);
-    let offset = request::number(rest, place.end, U64);
-    let count = request::bytes(rest, offset.end, data);
+    let places = two_places(rest);
+    let count = request::bytes(rest, places.end, data);
     if count.end != rest.len() {
         return answer::bad(out, n);
     }
     let run = request::front(data, count.value);
-    put_place(out, n, find_srm_peaks(run, place.value, offset.value))
+    put_place(out, n, find_srm_peaks(run, places.data, places.offset))
 }
 
 // The request words that are answered here.

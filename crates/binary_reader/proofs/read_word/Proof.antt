@@ -33,7 +33,7 @@ use Rattle.binary_reader.specs.Read.{width, reads, placeAfter, outcomeOf
 use Rattle.binary_reader.specs.declared.BinaryReader.{BinaryReader}
 use Rattle.binary_reader.specs.declared.Width.{Width}
 use Rattle.binary_reader.specs.declared.WordAnswer.{WordAnswer}
-use Rattle.binary_reader.proofs.Moving.{Reader, Left, Callee, walk}
+use Rattle.binary_reader.proofs.Moving.{Reader, AtEnd, Callee, walk}
 use Rattle.binary_reader.proofs.SplitOwnership.{referent, moved, sliceOf}
 use Rattle.binary_reader.proofs.Width as Z
 use Rattle.binary_reader.proofs.Width.Laws as Z′
@@ -86,9 +86,9 @@ module _ {M : Type 1} (𝓤 : URA M) (H : Heap 𝓤) (A : Atoms 𝓤) (W : Given
   abbrev machine : List Val × (List Val × (List Val × Unit {0}))
   machine = (sliceOf h ∷ [], (vint w64 (h .place) ∷ [], (EL.val Z.the-type Z′.the-laws size ∷ [], tt)))
 
-  exits : (m : ℕ) (r : WordAnswer) (u : Val) → Next m → Found r → ent 𝓤 (⋆ 𝓤 H A (Left κ κ′ q q′ b o γ (moved h m) S.the-row r u)) (Post u)
+  exits : (m : ℕ) (r : WordAnswer) (u : Val) → Next m → Found r → ent 𝓤 (⋆ 𝓤 H A (AtEnd κ κ′ q q′ b o γ (moved h m) S.the-row r u)) (Post u)
   exits m r u e f =
-      qed W (Left κ κ′ q q′ b o γ (moved h m) S.the-row r u) ∵
+      qed W (AtEnd κ κ′ q q′ b o γ (moved h m) S.the-row r u) ∵
       suffices ! _ (ends-at 𝓤 H A read-word.ended stayed (read-word.clauses 𝓤 H A at-mem run) W (((κ, (κ′, tt)), (q, (q′, tt)), bounds, x, vals), tt) u r (moved h m, (tt, tt)) (tt, (tt, tt))) $ says ! (record { answered = f; bytes = refl; place = e }) $
       move ! (2 ∷ 3 ∷ []) $ join ! $ frame ! $ feqI ! (List Val) (vptr b o ∷ []) (vptr b o ∷ []) refl $ fjoin3 ! $
       nothing ! $ owned ! Z.the-row (Is Z.the-row) (EL.makes Z.the-type Z′.the-plain 𝓤 H A) size _ sized $ fjoin ! $ move ! (1 ∷ 0 ∷ []) $ fjoin ! $ done !
