@@ -42,24 +42,17 @@ fn keyword_of(word: &[u8]) -> Keyword {
     Keyword::Unknown
 }
 
-// Answers the request of a line whose first word is `word` and ends at `at`.
-pub fn answer_request(
-    word: &[u8],
-    line: &[u8],
-    at: usize,
-    data: &mut [u8],
-    out: &mut [u8],
-    n: usize,
-) -> Answered
+// Answers a request by its word and the rest of its line.
+pub fn answer(word: &[u8], rest: &[u8], data: &mut [u8], out: &mut [u8], n: usize) -> Answered
     ensures { λ r. ⌜ held r ≤ length (now (out .exit)) ⌝ }
 {
     match keyword_of(word) {
-        Keyword::Event => Answered::Text(scan_events::event(line, at, data, out, n)),
-        Keyword::Counted => Answered::Text(scan_events::counted(line, at, data, out, n)),
-        Keyword::Preamble => Answered::Text(preambles::preamble(line, at, data, out, n)),
-        Keyword::PreambleSize => Answered::Text(preambles::preamble_size(line, at, out, n)),
-        Keyword::EventEnd => Answered::Text(places::event_end(line, at, data, out, n)),
-        Keyword::EventPlace => Answered::Text(places::event_place(line, at, data, out, n)),
+        Keyword::Event => Answered::Text(scan_events::event(rest, data, out, n)),
+        Keyword::Counted => Answered::Text(scan_events::counted(rest, data, out, n)),
+        Keyword::Preamble => Answered::Text(preambles::preamble(rest, data, out, n)),
+        Keyword::PreambleSize => Answered::Text(preambles::preamble_size(rest, out, n)),
+        Keyword::EventEnd => Answered::Text(places::event_end(rest, data, out, n)),
+        Keyword::EventPlace => Answered::Text(places::event_place(rest, data, out, n)),
         Keyword::Unknown => Answered::Unknown,
     }
 }

@@ -18,11 +18,11 @@ struct EventFields {
     end: usize,
 }
 
-fn event_fields(line: &[u8], at: usize) -> EventFields {
-    let version = request::number(line, at, U32);
-    let primary = request::number(line, version.end, U32);
-    let dependent = request::number(line, primary.end, U32);
-    let place = request::number(line, dependent.end, U64);
+fn event_fields(rest: &[u8]) -> EventFields {
+    let version = request::number(rest, 0, U32);
+    let primary = request::number(rest, version.end, U32);
+    let dependent = request::number(rest, primary.end, U32);
+    let place = request::number(rest, dependent.end, U64);
     EventFields {
         version: version.value as u32,
         primary: primary.value as u32,
@@ -32,12 +32,12 @@ fn event_fields(line: &[u8], at: usize) -> EventFields {
     }
 }
 
-pub(crate) fn event_end(line: &[u8], at: usize, data: &mut [u8], out: &mut [u8], n: usize) -> usize
+pub(crate) fn event_end(rest: &[u8], data: &mut [u8], out: &mut [u8], n: usize) -> usize
     ensures { λ r. ⌜ r ≤ length (now (out .exit)) ⌝ }
 {
-    let f = event_fields(line, at);
-    let count = request::bytes(line, f.end, data);
-    if count.end != line.len() {
+    let f = event_fields(rest);
+    let count = request::bytes(rest, f.end, data);
+    if count.end != rest.len() {
         return answer::bad(out, n);
     }
     let run = request::front(data, count.value);
@@ -45,19 +45,13 @@ pub(crate) fn event_end(line: &[u8], at: usize, data: &mut [u8], out: &mut [u8],
     answer::count(out, n, found)
 }
 
-pub(crate) fn event_place(
-    line: &[u8],
-    at: usize,
-    data: &mut [u8],
-    out: &mut [u8],
-    n: usize,
-) -> usize
+pub(crate) fn event_place(rest: &[u8], data: &mut [u8], out: &mut [u8], n: usize) -> usize
     ensures { λ r. ⌜ r ≤ length (now (out .exit)) ⌝ }
 {
-    let f = event_fields(line, at);
-    let k = request::number(line, f.end, U16);
-    let count = request::bytes(line, k.end, data);
-    if count.end != line.len() {
+    let f = event_fields(rest);
+    let k = request::number(rest, f.end, U16);
+    let count = request::bytes(rest, k.end, data);
+    if count.end != rest.len() {
         return answer::bad(out, n);
     }
     let run = request::front(data, count.value);

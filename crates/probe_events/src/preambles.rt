@@ -8,11 +8,11 @@ use probe_text::answer;
 use probe_text::request;
 use probe_text::request::U32;
 
-pub(crate) fn preamble_size(line: &[u8], at: usize, out: &mut [u8], n: usize) -> usize
+pub(crate) fn preamble_size(rest: &[u8], out: &mut [u8], n: usize) -> usize
     ensures { λ r. ⌜ r ≤ length (now (out .exit)) ⌝ }
 {
-    let version = request::number(line, at, U32);
-    if version.end != line.len() {
+    let version = request::number(rest, 0, U32);
+    if version.end != rest.len() {
         return answer::bad(out, n);
     }
     let version = version.value as u32;
@@ -84,11 +84,11 @@ pub(crate) fn put_settings(out: &mut [u8], n: usize, s: ScanEventPreamble) -> us
     put_code(out, n, analyzer)
 }
 
-pub(crate) fn preamble(line: &[u8], at: usize, data: &mut [u8], out: &mut [u8], n: usize) -> usize
+pub(crate) fn preamble(rest: &[u8], data: &mut [u8], out: &mut [u8], n: usize) -> usize
     ensures { λ r. ⌜ r ≤ length (now (out .exit)) ⌝ }
 {
-    let count = request::bytes(line, at, data);
-    if count.end != line.len() {
+    let count = request::bytes(rest, 0, data);
+    if count.end != rest.len() {
         return answer::bad(out, n);
     }
     let settings = event_preamble::decode(request::front(data, count.value));

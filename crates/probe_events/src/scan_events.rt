@@ -33,13 +33,13 @@ pub struct EventLengths {
     pub end: usize,
 }
 
-pub fn lent_lengths(line: &[u8], at: usize) -> EventLengths
+pub fn lent_lengths(rest: &[u8], at: usize) -> EventLengths
     ensures { λ r. ⌜ (r .preamble ≤ 256) × (r .precursors ≤ 64) × (r .energies ≤ 64) × (r .coefficients ≤ 64) ⌝ }
 {
-    let preamble = request::number(line, at, PREAMBLE);
-    let precursors = request::number(line, preamble.end, LENT);
-    let energies = request::number(line, precursors.end, LENT);
-    let coefficients = request::number(line, energies.end, LENT);
+    let preamble = request::number(rest, at, PREAMBLE);
+    let precursors = request::number(rest, preamble.end, LENT);
+    let energies = request::number(rest, precursors.end, LENT);
+    let coefficients = request::number(rest, energies.end, LENT);
     EventLengths {
         preamble: preamble.value as usize,
         precursors: precursors.value as usize,
@@ -184,20 +184,13 @@ fn put_read(
 }
 
 // The fields from PLACE on, and the answer by either function.
-fn event_by(
-    reading: Reading,
-    line: &[u8],
-    at: usize,
-    data: &mut [u8],
-    out: &mut [u8],
-    n: usize,
-) -> usize
+fn event_by(by: Reading, rest: &[u8], at: usize, data: &mut [u8], out: &mut [u8], n: usize) -> usize
     ensures { λ r. ⌜ r ≤ length (now (out .exit)) ⌝ }
 {
-    let place = request::number(line, at, U64);
-    let lent = lent_lengths(line, place.end);
-    let count = request::bytes(line, lent.end, data);
-    if count.end != line.len() {
+    let place = request::number(rest, at, U64);
+    let lent = lent_lengths(rest, place.end);
+    let count = request::bytes(rest, lent.end, data);
+    if count.end != rest.len() {
         return answer::bad(out, n);
     }
     let run = request::front(data, count.value);
@@ -210,7 +203,7 @@ fn event_by(
     let r = lent.energies;
     let c = lent.coefficients;
     put_read(
-        reading,
+        by,
         run,
         place.value,
         &mut preamble[0..p],
@@ -222,24 +215,24 @@ fn event_by(
     )
 }
 
-pub(crate) fn event(line: &[u8], at: usize, data: &mut [u8], out: &mut [u8], n: usize) -> usize
+pub(crate) fn event(rest: &[u8], data: &mut [u8], out: &mut [u8], n: usize) -> usize
     ensures { λ r. ⌜ r ≤ length (now (out .exit)) ⌝ }
 {
-    let version = request::number(line, at, U32);
-    let primary = request::number(line, version.end, U32);
-    let dependent = request::number(line, primary.end, U32);
+    let version = request::number(rest, 0, U32);
+    let primary = request::number(rest, version.end, U32);
+    let dependent = request::number(rest, primary.end, U32);
     let reading = Reading::Any {
         version: version.value as u32,
         primary: primary.value as u32,
         dependent: dependent.value as u32,
     };
-    event_by(reading, line, dependent.end, data, out, n)
+    event_by(reading, rest, dependent.end, data, out, n)
 }
 
-pub(crate) fn counted(line: &[u8], at: usize, data: &mut [u8], out: &mut [u8], n: usize) -> usize
+pub(crate) fn counted(rest: &[u8], data: &mut [u8], out: &mut [u8], n: usize) -> usize
     ensures { λ r. ⌜ r ≤ length (now (out .exit)) ⌝ }
 {
-    let size = request::number(line, at, U32);
+    let size = request::number(rest, 0, U32);
     let reading = Reading::Counted(size.value as u32);
-    event_by(reading, line, size.end, data, out, n)
+    event_by(reading, rest, size.end, data, out, n)
 }

@@ -18,11 +18,11 @@ use probe_text::request::Lengths;
 use probe_text::request::U64;
 use refusal::CountAnswer;
 
-fn narrow(line: &[u8], at: usize, out: &mut [u8], n: usize) -> usize
+fn narrow(rest: &[u8], out: &mut [u8], n: usize) -> usize
     ensures { λ r. ⌜ r ≤ length (now (out .exit)) ⌝ }
 {
-    let field = request::number(line, at, U64);
-    if field.end != line.len() {
+    let field = request::number(rest, 0, U64);
+    if field.end != rest.len() {
         return answer::bad(out, n);
     }
     let n = answer::ok(out, n);
@@ -42,12 +42,12 @@ fn put_noise(out: &mut [u8], n: usize, answer: NoiseAnswer) -> usize
     }
 }
 
-fn noise(line: &[u8], at: usize, data: &mut [u8], out: &mut [u8], n: usize) -> usize
+fn noise(rest: &[u8], data: &mut [u8], out: &mut [u8], n: usize) -> usize
     ensures { λ r. ⌜ r ≤ length (now (out .exit)) ⌝ }
 {
-    let mz = request::number(line, at, U64);
-    let count = request::bytes(line, mz.end, data);
-    if count.end != line.len() {
+    let mz = request::number(rest, 0, U64);
+    let count = request::bytes(rest, mz.end, data);
+    if count.end != rest.len() {
         return answer::bad(out, n);
     }
     let nodes = request::front(data, count.value);
@@ -106,15 +106,15 @@ fn lend_labels(
     )
 }
 
-fn labels(line: &[u8], at: usize, data: &mut [u8], out: &mut [u8], n: usize) -> usize
+fn labels(rest: &[u8], data: &mut [u8], out: &mut [u8], n: usize) -> usize
     ensures { λ r. ⌜ r ≤ length (now (out .exit)) ⌝ }
 {
     let mut masses = [0u64; 64];
-    let list = request::u64s(line, at, data, &mut masses);
-    let f = request::number(line, list.end, LENT);
-    let lent = request::lent_lengths(line, f.end);
-    let count = request::bytes(line, lent.end, data);
-    if count.end != line.len() {
+    let list = request::u64s(rest, 0, data, &mut masses);
+    let f = request::number(rest, list.end, LENT);
+    let lent = request::lent_lengths(rest, f.end);
+    let count = request::bytes(rest, lent.end, data);
+    if count.end != rest.len() {
         return answer::bad(out, n);
     }
     let nodes = request::front(data, count.value);
@@ -132,13 +132,13 @@ fn put_packet_noise(out: &mut [u8], n: usize, run: &[u8], packet: PacketAnswer, 
     }
 }
 
-fn packet_noise(line: &[u8], at: usize, data: &mut [u8], out: &mut [u8], n: usize) -> usize
+fn packet_noise(rest: &[u8], data: &mut [u8], out: &mut [u8], n: usize) -> usize
     ensures { λ r. ⌜ r ≤ length (now (out .exit)) ⌝ }
 {
-    let mz = request::number(line, at, U64);
-    let place = request::number(line, mz.end, U64);
-    let count = request::bytes(line, place.end, data);
-    if count.end != line.len() {
+    let mz = request::number(rest, 0, U64);
+    let place = request::number(rest, mz.end, U64);
+    let count = request::bytes(rest, place.end, data);
+    if count.end != rest.len() {
         return answer::bad(out, n);
     }
     let run = request::front(data, count.value);
@@ -209,14 +209,14 @@ fn put_packet_labels(
     put_slices(out, n, flags, noises, baselines)
 }
 
-fn packet_labels(line: &[u8], at: usize, data: &mut [u8], out: &mut [u8], n: usize) -> usize
+fn packet_labels(rest: &[u8], data: &mut [u8], out: &mut [u8], n: usize) -> usize
     ensures { λ r. ⌜ r ≤ length (now (out .exit)) ⌝ }
 {
-    let place = request::number(line, at, U64);
-    let f = request::number(line, place.end, LENT);
-    let lent = request::lent_lengths(line, f.end);
-    let count = request::bytes(line, lent.end, data);
-    if count.end != line.len() {
+    let place = request::number(rest, 0, U64);
+    let f = request::number(rest, place.end, LENT);
+    let lent = request::lent_lengths(rest, f.end);
+    let count = request::bytes(rest, lent.end, data);
+    if count.end != rest.len() {
         return answer::bad(out, n);
     }
     let run = request::front(data, count.value);
@@ -266,23 +266,16 @@ fn keyword_of(word: &[u8]) -> Keyword {
     Keyword::Unknown
 }
 
-// Answers the request of a line whose first word is `word` and ends at `at`.
-pub fn answer_request(
-    word: &[u8],
-    line: &[u8],
-    at: usize,
-    data: &mut [u8],
-    out: &mut [u8],
-    n: usize,
-) -> Answered
+// Answers a request by its word and the rest of its line.
+pub fn answer(word: &[u8], rest: &[u8], data: &mut [u8], out: &mut [u8], n: usize) -> Answered
     ensures { λ r. ⌜ held r ≤ length (now (out .exit)) ⌝ }
 {
     match keyword_of(word) {
-        Keyword::Narrow => Answered::Text(narrow(line, at, out, n)),
-        Keyword::Noise => Answered::Text(noise(line, at, data, out, n)),
-        Keyword::Labels => Answered::Text(labels(line, at, data, out, n)),
-        Keyword::PacketNoise => Answered::Text(packet_noise(line, at, data, out, n)),
-        Keyword::PacketLabels => Answered::Text(packet_labels(line, at, data, out, n)),
+        Keyword::Narrow => Answered::Text(narrow(rest, out, n)),
+        Keyword::Noise => Answered::Text(noise(rest, data, out, n)),
+        Keyword::Labels => Answered::Text(labels(rest, data, out, n)),
+        Keyword::PacketNoise => Answered::Text(packet_noise(rest, data, out, n)),
+        Keyword::PacketLabels => Answered::Text(packet_labels(rest, data, out, n)),
         Keyword::Unknown => Answered::Unknown,
     }
 }

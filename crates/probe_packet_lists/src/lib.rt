@@ -111,37 +111,6 @@ fn put_skipping(
     put_lists(out, n, masses, abundances, descriptors, resolutions)
 }
 
-fn skip_profile(line: &[u8], at: usize, data: &mut [u8], out: &mut [u8], n: usize) -> usize
-    ensures { λ r. ⌜ r ≤ length (now (out .exit)) ⌝ }
-{
-    let place = request::number(line, at, U64);
-    let peaks = request::lent_lengths(line, place.end);
-    let labels = request::lent_lengths(line, peaks.end);
-    let count = request::bytes(line, labels.end, data);
-    if count.end != line.len() {
-        return answer::bad(out, n);
-    }
-    let run = request::front(data, count.value);
-    let mut masses = lent::u64s();
-    let mut abundances = lent::u32s();
-    let mut descriptors = lent::u32s();
-    let mut resolutions = lent::u32s();
-    let m = peaks.first;
-    let a = peaks.second;
-    let d = labels.first;
-    let r = labels.second;
-    put_skipping(
-        run,
-        place.value,
-        &mut masses[0..m],
-        &mut abundances[0..a],
-        &mut descriptors[0..d],
-        &mut resolutions[0..r],
-        out,
-        n,
-    )
-}
-
 fn put_chunks(
     out: &mut [u8],
     n: usize,
@@ -156,24 +125,6 @@ fn put_chunks(
     let n = answer::slice32(out, n, counts);
     let n = answer::slice32(out, n, fudges);
     answer::slice32(out, n, signal)
-}
-
-fn put_slices(
-    out: &mut [u8],
-    n: usize,
-    masses: &[u64],
-    abundances: &[u32],
-    descriptors: &[u32],
-    resolutions: &[u32],
-    first_bins: &[u32],
-    counts: &[u32],
-    fudges: &[u32],
-    signal: &[u32],
-) -> usize
-    ensures { λ r. ⌜ r ≤ length (now (out .exit)) ⌝ }
-{
-    let n = put_lists(out, n, masses, abundances, descriptors, resolutions);
-    put_chunks(out, n, first_bins, counts, fudges, signal)
 }
 
 // The whole packet at a place, and the slices that are lent for it, which are filled already.
@@ -206,21 +157,13 @@ fn put_full(
         signal,
     );
     let n = put_answer(out, n, run, answer);
-    put_slices(
-        out,
-        n,
-        masses,
-        abundances,
-        descriptors,
-        resolutions,
-        first_bins,
-        counts,
-        fudges,
-        signal,
-    )
+    let n = put_lists(out, n, masses, abundances, descriptors, resolutions);
+    put_chunks(out, n, first_bins, counts, fudges, signal)
 }
 
+// Lends the slices of a whole packet's chunks; without its profile it is read at once.
 fn lend_chunks(
+    whole: bool,
     run: &[u8],
     place: u64,
     masses: &mut [u64],
@@ -235,6 +178,18 @@ fn lend_chunks(
     requires { ⌜ (chunks .first ≤ 64) × (chunks .second ≤ 64) × (values .first ≤ 64) × (values .second ≤ 64) ⌝ }
     ensures { λ r. ⌜ r ≤ length (now (out .exit)) ⌝ }
 {
+    if !whole {
+        return put_skipping(
+            run,
+            place,
+            masses,
+            abundances,
+            descriptors,
+            resolutions,
+            out,
+            n,
+        );
+    }
     let mut first_bins = lent::u32s();
     let mut counts = lent::u32s();
     let mut fudges = lent::u32s();
@@ -260,6 +215,7 @@ fn lend_chunks(
 }
 
 fn lend_lists(
+    whole: bool,
     run: &[u8],
     place: u64,
     peaks: Lengths,
@@ -282,6 +238,7 @@ fn lend_lists(
     let d = labels.first;
     let r = labels.second;
     lend_chunks(
+        whole,
         run,
         place,
         &mut masses[0..m],
@@ -295,20 +252,44 @@ fn lend_lists(
     )
 }
 
-fn packet(line: &[u8], at: usize, data: &mut [u8], out: &mut [u8], n: usize) -> usize
+// Two lent lengths that the request for a whole packet has, and the one without the profile has not.
+fn lengths_of_whole(whole: bool, rest: &[u8], at: usize) -> Lengths
+    ensures { λ r. ⌜ (r .first ≤ 64) × (r .second ≤ 64) ⌝ }
+{
+    if whole {
+        return request::lent_lengths(rest, at);
+    }
+    Lengths {
+        first: 0,
+        second: 0,
+        end: at,
+    }
+}
+
+fn packet(whole: bool, rest: &[u8], data: &mut [u8], out: &mut [u8], n: usize) -> usize
     ensures { λ r. ⌜ r ≤ length (now (out .exit)) ⌝ }
 {
-    let place = request::number(line, at, U64);
-    let peaks = request::lent_lengths(line, place.end);
-    let labels = request::lent_lengths(line, peaks.end);
-    let chunks = request::lent_lengths(line, labels.end);
-    let values = request::lent_lengths(line, chunks.end);
-    let count = request::bytes(line, values.end, data);
-    if count.end != line.len() {
+    let place = request::number(rest, 0, U64);
+    let peaks = request::lent_lengths(rest, place.end);
+    let labels = request::lent_lengths(rest, peaks.end);
+    let chunks = lengths_of_whole(whole, rest, labels.end);
+    let values = lengths_of_whole(whole, rest, chunks.end);
+    let count = request::bytes(rest, values.end, data);
+    if count.end != rest.len() {
         return answer::bad(out, n);
     }
     let run = request::front(data, count.value);
-    lend_lists(run, place.value, peaks, labels, chunks, values, out, n)
+    lend_lists(
+        whole,
+        run,
+        place.value,
+        peaks,
+        labels,
+        chunks,
+        values,
+        out,
+        n,
+    )
 }
 
 // The request words that are answered here.
@@ -328,20 +309,13 @@ fn keyword_of(word: &[u8]) -> Keyword {
     Keyword::Unknown
 }
 
-// Answers the request of a line whose first word is `word` and ends at `at`.
-pub fn answer_request(
-    word: &[u8],
-    line: &[u8],
-    at: usize,
-    data: &mut [u8],
-    out: &mut [u8],
-    n: usize,
-) -> Answered
+// Answers a request by its word and the rest of its line.
+pub fn answer(word: &[u8], rest: &[u8], data: &mut [u8], out: &mut [u8], n: usize) -> Answered
     ensures { λ r. ⌜ held r ≤ length (now (out .exit)) ⌝ }
 {
     match keyword_of(word) {
-        Keyword::SkipProfile => Answered::Text(skip_profile(line, at, data, out, n)),
-        Keyword::Packet => Answered::Text(packet(line, at, data, out, n)),
+        Keyword::SkipProfile => Answered::Text(packet(false, rest, data, out, n)),
+        Keyword::Packet => Answered::Text(packet(true, rest, data, out, n)),
         Keyword::Unknown => Answered::Unknown,
     }
 }

@@ -1,5 +1,4 @@
-// Answers the requests on headers, peaks and places of scan data packets: the crates `packet_header`, `packet_peak_list`
-// and `packet_places`.
+// Answers the requests on headers and places of scan data packets: the crates `packet_header` and `packet_places`.
 ghost use Prim.Native.Nat.{_≤_};
 ghost use lib.ListN.{length};
 ghost use Rattle.probe_text.specs.Held.{held};
@@ -7,7 +6,6 @@ use packet_header::HeaderAnswer;
 use packet_header::PacketHeader;
 use packet_labels::Labels;
 use packet_peak_list::PeakList;
-use packet_peak_list::read_peaks_only;
 use packet_places::find_places as find_packet;
 use packet_profile::Profile;
 use packet_record::PacketPlaces;
@@ -15,7 +13,6 @@ use packet_record::PacketPlacesAnswer;
 use packet_record::PacketProfile;
 use probe_text::Answered;
 use probe_text::answer;
-use probe_text::lent;
 use probe_text::request;
 use probe_text::request::U64;
 
@@ -39,12 +36,12 @@ pub fn put_header(out: &mut [u8], n: usize, h: PacketHeader) -> usize
     answer::bits32(out, n, h.high_mz)
 }
 
-fn packet_header(line: &[u8], at: usize, data: &mut [u8], out: &mut [u8], n: usize) -> usize
+fn packet_header(rest: &[u8], data: &mut [u8], out: &mut [u8], n: usize) -> usize
     ensures { λ r. ⌜ r ≤ length (now (out .exit)) ⌝ }
 {
-    let place = request::number(line, at, U64);
-    let count = request::bytes(line, place.end, data);
-    if count.end != line.len() {
+    let place = request::number(rest, 0, U64);
+    let count = request::bytes(rest, place.end, data);
+    if count.end != rest.len() {
         return answer::bad(out, n);
     }
     let run = request::front(data, count.value);
@@ -52,47 +49,6 @@ fn packet_header(line: &[u8], at: usize, data: &mut [u8], out: &mut [u8], n: usi
         HeaderAnswer::Header(h) => put_header(out, n, h),
         HeaderAnswer::Refused(refusal) => answer::refused(out, n, refusal),
     }
-}
-
-// The peaks of the packet at a place, and the slices that are lent for them.
-fn put_peaks(
-    run: &[u8],
-    place: u64,
-    masses: &mut [u64],
-    abundances: &mut [u32],
-    out: &mut [u8],
-    n: usize,
-) -> usize
-    ensures { λ r. ⌜ r ≤ length (now (out .exit)) ⌝ }
-{
-    let answer = read_peaks_only(run, place, masses, abundances);
-    let n = answer::count(out, n, answer);
-    let n = answer::slice64(out, n, masses);
-    answer::slice32(out, n, abundances)
-}
-
-fn peaks(line: &[u8], at: usize, data: &mut [u8], out: &mut [u8], n: usize) -> usize
-    ensures { λ r. ⌜ r ≤ length (now (out .exit)) ⌝ }
-{
-    let place = request::number(line, at, U64);
-    let lent = request::lent_lengths(line, place.end);
-    let count = request::bytes(line, lent.end, data);
-    if count.end != line.len() {
-        return answer::bad(out, n);
-    }
-    let run = request::front(data, count.value);
-    let mut masses = lent::u64s();
-    let mut abundances = lent::u32s();
-    let m = lent.first;
-    let a = lent.second;
-    put_peaks(
-        run,
-        place.value,
-        &mut masses[0..m],
-        &mut abundances[0..a],
-        out,
-        n,
-    )
 }
 
 fn put_profile(out: &mut [u8], n: usize, p: Profile) -> usize
@@ -144,12 +100,12 @@ fn put_places(out: &mut [u8], n: usize, places: PacketPlaces) -> usize
     put_labels(out, n, labels)
 }
 
-fn find_places(line: &[u8], at: usize, data: &mut [u8], out: &mut [u8], n: usize) -> usize
+fn find_places(rest: &[u8], data: &mut [u8], out: &mut [u8], n: usize) -> usize
     ensures { λ r. ⌜ r ≤ length (now (out .exit)) ⌝ }
 {
-    let place = request::number(line, at, U64);
-    let count = request::bytes(line, place.end, data);
-    if count.end != line.len() {
+    let place = request::number(rest, 0, U64);
+    let count = request::bytes(rest, place.end, data);
+    if count.end != rest.len() {
         return answer::bad(out, n);
     }
     match find_packet(request::front(data, count.value), place.value) {
@@ -161,7 +117,6 @@ fn find_places(line: &[u8], at: usize, data: &mut [u8], out: &mut [u8], n: usize
 // The request words that are answered here.
 enum Keyword {
     PacketHeader,
-    Peaks,
     FindPlaces,
     Unknown,
 }
@@ -170,30 +125,19 @@ fn keyword_of(word: &[u8]) -> Keyword {
     if check::same(word, b"packet_header") {
         return Keyword::PacketHeader;
     }
-    if check::same(word, b"peaks") {
-        return Keyword::Peaks;
-    }
     if check::same(word, b"find_places") {
         return Keyword::FindPlaces;
     }
     Keyword::Unknown
 }
 
-// Answers the request of a line whose first word is `word` and ends at `at`.
-pub fn answer_request(
-    word: &[u8],
-    line: &[u8],
-    at: usize,
-    data: &mut [u8],
-    out: &mut [u8],
-    n: usize,
-) -> Answered
+// Answers a request by its word and the rest of its line.
+pub fn answer(word: &[u8], rest: &[u8], data: &mut [u8], out: &mut [u8], n: usize) -> Answered
     ensures { λ r. ⌜ held r ≤ length (now (out .exit)) ⌝ }
 {
     match keyword_of(word) {
-        Keyword::PacketHeader => Answered::Text(packet_header(line, at, data, out, n)),
-        Keyword::Peaks => Answered::Text(peaks(line, at, data, out, n)),
-        Keyword::FindPlaces => Answered::Text(find_places(line, at, data, out, n)),
+        Keyword::PacketHeader => Answered::Text(packet_header(rest, data, out, n)),
+        Keyword::FindPlaces => Answered::Text(find_places(rest, data, out, n)),
         Keyword::Unknown => Answered::Unknown,
     }
 }

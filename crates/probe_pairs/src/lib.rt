@@ -14,13 +14,13 @@ use probe_text::request::U32;
 use probe_text::request::U64;
 use refusal::CountAnswer;
 
-fn freq_to_mz(line: &[u8], at: usize, data: &mut [u8], out: &mut [u8], n: usize) -> usize
+fn freq_to_mz(rest: &[u8], data: &mut [u8], out: &mut [u8], n: usize) -> usize
     ensures { λ r. ⌜ r ≤ length (now (out .exit)) ⌝ }
 {
-    let freq = request::number(line, at, U64);
+    let freq = request::number(rest, 0, U64);
     let mut coefficients = [0u64; 64];
-    let list = request::u64s(line, freq.end, data, &mut coefficients);
-    if list.end != line.len() {
+    let list = request::u64s(rest, freq.end, data, &mut coefficients);
+    if list.end != rest.len() {
         return answer::bad(out, n);
     }
     let k = list.value as usize;
@@ -91,16 +91,16 @@ fn lend_pairs(
     )
 }
 
-fn pairs(line: &[u8], at: usize, data: &mut [u8], out: &mut [u8], n: usize) -> usize
+fn pairs(rest: &[u8], data: &mut [u8], out: &mut [u8], n: usize) -> usize
     ensures { λ r. ⌜ r ≤ length (now (out .exit)) ⌝ }
 {
-    let layout = request::number(line, at, U32);
-    let place = request::number(line, layout.end, U64);
-    let lent = request::lent_lengths(line, place.end);
+    let layout = request::number(rest, 0, U32);
+    let place = request::number(rest, layout.end, U64);
+    let lent = request::lent_lengths(rest, place.end);
     let mut coefficients = [0u64; 64];
-    let list = request::u64s(line, lent.end, data, &mut coefficients);
-    let count = request::bytes(line, list.end, data);
-    if count.end != line.len() {
+    let list = request::u64s(rest, lent.end, data, &mut coefficients);
+    let count = request::bytes(rest, list.end, data);
+    if count.end != rest.len() {
         return answer::bad(out, n);
     }
     let run = request::front(data, count.value);
@@ -126,20 +126,13 @@ fn keyword_of(word: &[u8]) -> Keyword {
     Keyword::Unknown
 }
 
-// Answers the request of a line whose first word is `word` and ends at `at`.
-pub fn answer_request(
-    word: &[u8],
-    line: &[u8],
-    at: usize,
-    data: &mut [u8],
-    out: &mut [u8],
-    n: usize,
-) -> Answered
+// Answers a request by its word and the rest of its line.
+pub fn answer(word: &[u8], rest: &[u8], data: &mut [u8], out: &mut [u8], n: usize) -> Answered
     ensures { λ r. ⌜ held r ≤ length (now (out .exit)) ⌝ }
 {
     match keyword_of(word) {
-        Keyword::FreqToMz => Answered::Text(freq_to_mz(line, at, data, out, n)),
-        Keyword::Pairs => Answered::Text(pairs(line, at, data, out, n)),
+        Keyword::FreqToMz => Answered::Text(freq_to_mz(rest, data, out, n)),
+        Keyword::Pairs => Answered::Text(pairs(rest, data, out, n)),
         Keyword::Unknown => Answered::Unknown,
     }
 }

@@ -34,12 +34,12 @@ fn format_of(number: u64) -> ScanDataFormat {
     }
 }
 
-fn format(line: &[u8], at: usize, out: &mut [u8], n: usize) -> usize
+fn format(rest: &[u8], out: &mut [u8], n: usize) -> usize
     ensures { λ r. ⌜ r ≤ length (now (out .exit)) ⌝ }
 {
-    let version = request::number(line, at, U32);
-    let flat = request::number(line, version.end, 1);
-    if flat.end != line.len() {
+    let version = request::number(rest, 0, U32);
+    let flat = request::number(rest, version.end, 1);
+    if flat.end != rest.len() {
         return answer::bad(out, n);
     }
     let format = ScanDataFormat::detect(version.value as u32, flat.value == 1);
@@ -54,12 +54,12 @@ fn put_display_name(format: ScanDataFormat, lent: &mut [u8], out: &mut [u8], n: 
     answer::name(out, n, written, lent)
 }
 
-fn display_name(line: &[u8], at: usize, out: &mut [u8], n: usize) -> usize
+fn display_name(rest: &[u8], out: &mut [u8], n: usize) -> usize
     ensures { λ r. ⌜ r ≤ length (now (out .exit)) ⌝ }
 {
-    let format = request::number(line, at, 2);
-    let length = request::number(line, format.end, LENT);
-    if length.end != line.len() {
+    let format = request::number(rest, 0, 2);
+    let length = request::number(rest, format.end, LENT);
+    if length.end != rest.len() {
         return answer::bad(out, n);
     }
     let mut text = lent::u8s();
@@ -67,11 +67,11 @@ fn display_name(line: &[u8], at: usize, out: &mut [u8], n: usize) -> usize
     put_display_name(format_of(format.value), &mut text[0..count], out, n)
 }
 
-fn entry_size(line: &[u8], at: usize, out: &mut [u8], n: usize) -> usize
+fn entry_size(rest: &[u8], out: &mut [u8], n: usize) -> usize
     ensures { λ r. ⌜ r ≤ length (now (out .exit)) ⌝ }
 {
-    let version = request::number(line, at, U32);
-    if version.end != line.len() {
+    let version = request::number(rest, 0, U32);
+    if version.end != rest.len() {
         return answer::bad(out, n);
     }
     let version = version.value as u32;
@@ -100,13 +100,13 @@ pub fn put_entry(out: &mut [u8], n: usize, e: ScanIndexEntry) -> usize
     answer::number(out, n, e.offset)
 }
 
-fn entry(line: &[u8], at: usize, data: &mut [u8], out: &mut [u8], n: usize) -> usize
+fn entry(rest: &[u8], data: &mut [u8], out: &mut [u8], n: usize) -> usize
     ensures { λ r. ⌜ r ≤ length (now (out .exit)) ⌝ }
 {
-    let version = request::number(line, at, U32);
-    let place = request::number(line, version.end, U64);
-    let count = request::bytes(line, place.end, data);
-    if count.end != line.len() {
+    let version = request::number(rest, 0, U32);
+    let place = request::number(rest, version.end, U64);
+    let count = request::bytes(rest, place.end, data);
+    if count.end != rest.len() {
         return answer::bad(out, n);
     }
     let run = request::front(data, count.value);
@@ -148,15 +148,15 @@ fn put_data(out: &mut [u8], n: usize, found: ScanData) -> usize
     }
 }
 
-fn find_data(line: &[u8], at: usize, data: &mut [u8], out: &mut [u8], n: usize) -> usize
+fn find_data(rest: &[u8], data: &mut [u8], out: &mut [u8], n: usize) -> usize
     ensures { λ r. ⌜ r ≤ length (now (out .exit)) ⌝ }
 {
-    let format = request::number(line, at, 2);
-    let place = request::number(line, format.end, U64);
-    let offset = request::number(line, place.end, U64);
-    let size = request::number(line, offset.end, U32);
-    let count = request::bytes(line, size.end, data);
-    if count.end != line.len() {
+    let format = request::number(rest, 0, 2);
+    let place = request::number(rest, format.end, U64);
+    let offset = request::number(rest, place.end, U64);
+    let size = request::number(rest, offset.end, U32);
+    let count = request::bytes(rest, size.end, data);
+    if count.end != rest.len() {
         return answer::bad(out, n);
     }
     let run = request::front(data, count.value);
@@ -197,23 +197,16 @@ fn keyword_of(word: &[u8]) -> Keyword {
     Keyword::Unknown
 }
 
-// Answers the request of a line whose first word is `word` and ends at `at`.
-pub fn answer_request(
-    word: &[u8],
-    line: &[u8],
-    at: usize,
-    data: &mut [u8],
-    out: &mut [u8],
-    n: usize,
-) -> Answered
+// Answers a request by its word and the rest of its line.
+pub fn answer(word: &[u8], rest: &[u8], data: &mut [u8], out: &mut [u8], n: usize) -> Answered
     ensures { λ r. ⌜ held r ≤ length (now (out .exit)) ⌝ }
 {
     match keyword_of(word) {
-        Keyword::Entry => Answered::Text(entry(line, at, data, out, n)),
-        Keyword::EntrySize => Answered::Text(entry_size(line, at, out, n)),
-        Keyword::Format => Answered::Text(format(line, at, out, n)),
-        Keyword::DisplayName => Answered::Text(display_name(line, at, out, n)),
-        Keyword::FindData => Answered::Text(find_data(line, at, data, out, n)),
+        Keyword::Entry => Answered::Text(entry(rest, data, out, n)),
+        Keyword::EntrySize => Answered::Text(entry_size(rest, out, n)),
+        Keyword::Format => Answered::Text(format(rest, out, n)),
+        Keyword::DisplayName => Answered::Text(display_name(rest, out, n)),
+        Keyword::FindData => Answered::Text(find_data(rest, data, out, n)),
         Keyword::Unknown => Answered::Unknown,
     }
 }

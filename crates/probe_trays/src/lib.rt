@@ -17,11 +17,16 @@ use tray::read_scan_from;
 use tray_scan::Scan;
 use tray_scan::ScanAnswer;
 
-// Which function reads the scan, and what it is given beside the tray: the scan's number, and the place of its event if
-// that is not walked to.
-enum Reading {
-    Walked(u32),
-    From { k: u32, place: u64 },
+// Whether the scan's event is walked to, or its place is given.
+enum EventPlace {
+    Walked,
+    Given(u64),
+}
+
+// Which scan is read, and by which function.
+struct Reading {
+    k: u32,
+    event: EventPlace,
 }
 
 // The fields of a scan.
@@ -45,8 +50,9 @@ fn put_answer(out: &mut [u8], n: usize, answer: ScanAnswer) -> usize
 }
 
 fn read(
-    reading: Reading,
     tray: &[u8],
+    k: u32,
+    event: EventPlace,
     preamble: &mut [u8],
     precursors: &mut [u64],
     energies: &mut [u64],
@@ -54,8 +60,8 @@ fn read(
     masses: &mut [f64],
     intensities: &mut [f64],
 ) -> ScanAnswer {
-    match reading {
-        Reading::Walked(k) => read_scan(
+    match event {
+        EventPlace::Walked => read_scan(
             tray,
             k,
             preamble,
@@ -65,7 +71,7 @@ fn read(
             masses,
             intensities,
         ),
-        Reading::From { k, place } => read_scan_from(
+        EventPlace::Given(place) => read_scan_from(
             tray,
             k,
             place,
@@ -94,9 +100,11 @@ fn put_read(
 ) -> usize
     ensures { λ r. ⌜ r ≤ length (now (out .exit)) ⌝ }
 {
+    let event = reading.event;
     let answer = read(
-        reading,
         tray,
+        reading.k,
+        event,
         preamble,
         precursors,
         energies,
@@ -150,64 +158,60 @@ fn lend(
 }
 
 // The fields from P on, and the answer by either function.
-fn scan_by(
-    reading: Reading,
-    line: &[u8],
-    at: usize,
-    data: &mut [u8],
-    out: &mut [u8],
-    n: usize,
-) -> usize
+fn scan_by(by: Reading, rest: &[u8], at: usize, data: &mut [u8], out: &mut [u8], n: usize) -> usize
     ensures { λ r. ⌜ r ≤ length (now (out .exit)) ⌝ }
 {
-    let event = scan_events::lent_lengths(line, at);
-    let pairs = request::lent_lengths(line, event.end);
-    let count = request::bytes(line, pairs.end, data);
-    if count.end != line.len() {
+    let event = scan_events::lent_lengths(rest, at);
+    let pairs = request::lent_lengths(rest, event.end);
+    let count = request::bytes(rest, pairs.end, data);
+    if count.end != rest.len() {
         return answer::bad(out, n);
     }
     let tray = request::front(data, count.value);
-    lend(reading, tray, event, pairs, out, n)
+    lend(by, tray, event, pairs, out, n)
 }
 
-fn scan(line: &[u8], at: usize, data: &mut [u8], out: &mut [u8], n: usize) -> usize
+fn scan(rest: &[u8], data: &mut [u8], out: &mut [u8], n: usize) -> usize
     ensures { λ r. ⌜ r ≤ length (now (out .exit)) ⌝ }
 {
-    let k = request::number(line, at, U32);
-    let reading = Reading::Walked(k.value as u32);
-    scan_by(reading, line, k.end, data, out, n)
-}
-
-fn scan_from(line: &[u8], at: usize, data: &mut [u8], out: &mut [u8], n: usize) -> usize
-    ensures { λ r. ⌜ r ≤ length (now (out .exit)) ⌝ }
-{
-    let k = request::number(line, at, U32);
-    let place = request::number(line, k.end, U64);
-    let reading = Reading::From {
+    let k = request::number(rest, 0, U32);
+    let reading = Reading {
         k: k.value as u32,
-        place: place.value,
+        event: EventPlace::Walked,
     };
-    scan_by(reading, line, place.end, data, out, n)
+    scan_by(reading, rest, k.end, data, out, n)
 }
 
-fn event_of(line: &[u8], at: usize, data: &mut [u8], out: &mut [u8], n: usize) -> usize
+fn scan_from(rest: &[u8], data: &mut [u8], out: &mut [u8], n: usize) -> usize
     ensures { λ r. ⌜ r ≤ length (now (out .exit)) ⌝ }
 {
-    let k = request::number(line, at, U32);
-    let count = request::bytes(line, k.end, data);
-    if count.end != line.len() {
+    let k = request::number(rest, 0, U32);
+    let place = request::number(rest, k.end, U64);
+    let reading = Reading {
+        k: k.value as u32,
+        event: EventPlace::Given(place.value),
+    };
+    scan_by(reading, rest, place.end, data, out, n)
+}
+
+fn event_of(rest: &[u8], data: &mut [u8], out: &mut [u8], n: usize) -> usize
+    ensures { λ r. ⌜ r ≤ length (now (out .exit)) ⌝ }
+{
+    let k = request::number(rest, 0, U32);
+    let count = request::bytes(rest, k.end, data);
+    if count.end != rest.len() {
         return answer::bad(out, n);
     }
     let found = tray::event_of(request::front(data, count.value), k.value as u32);
     answer::count(out, n, found)
 }
 
-fn next_event(line: &[u8], at: usize, data: &mut [u8], out: &mut [u8], n: usize) -> usize
+fn next_event(rest: &[u8], data: &mut [u8], out: &mut [u8], n: usize) -> usize
     ensures { λ r. ⌜ r ≤ length (now (out .exit)) ⌝ }
 {
-    let place = request::number(line, at, U64);
-    let count = request::bytes(line, place.end, data);
-    if count.end != line.len() {
+    let place = request::number(rest, 0, U64);
+    let count = request::bytes(rest, place.end, data);
+    if count.end != rest.len() {
         return answer::bad(out, n);
     }
     let found = tray::next_event(request::front(data, count.value), place.value);
@@ -239,22 +243,15 @@ fn keyword_of(word: &[u8]) -> Keyword {
     Keyword::Unknown
 }
 
-// Answers the request of a line whose first word is `word` and ends at `at`.
-pub fn answer_request(
-    word: &[u8],
-    line: &[u8],
-    at: usize,
-    data: &mut [u8],
-    out: &mut [u8],
-    n: usize,
-) -> Answered
+// Answers a request by its word and the rest of its line.
+pub fn answer(word: &[u8], rest: &[u8], data: &mut [u8], out: &mut [u8], n: usize) -> Answered
     ensures { λ r. ⌜ held r ≤ length (now (out .exit)) ⌝ }
 {
     match keyword_of(word) {
-        Keyword::Scan => Answered::Text(scan(line, at, data, out, n)),
-        Keyword::ScanFrom => Answered::Text(scan_from(line, at, data, out, n)),
-        Keyword::EventOf => Answered::Text(event_of(line, at, data, out, n)),
-        Keyword::NextEvent => Answered::Text(next_event(line, at, data, out, n)),
+        Keyword::Scan => Answered::Text(scan(rest, data, out, n)),
+        Keyword::ScanFrom => Answered::Text(scan_from(rest, data, out, n)),
+        Keyword::EventOf => Answered::Text(event_of(rest, data, out, n)),
+        Keyword::NextEvent => Answered::Text(next_event(rest, data, out, n)),
         Keyword::Unknown => Answered::Unknown,
     }
 }

@@ -61,29 +61,22 @@ fn keyword_of(word: &[u8]) -> Keyword {
     Keyword::Unknown
 }
 
-// Answers the request of a line whose first word is `word` and ends at `at`.
-pub fn answer_request(
-    word: &[u8],
-    line: &[u8],
-    at: usize,
-    data: &mut [u8],
-    out: &mut [u8],
-    n: usize,
-) -> Answered
+// Answers a request by its word and the rest of its line.
+pub fn answer(word: &[u8], rest: &[u8], data: &mut [u8], out: &mut [u8], n: usize) -> Answered
     ensures { λ r. ⌜ held r ≤ length (now (out .exit)) ⌝ }
 {
     match keyword_of(word) {
-        Keyword::Word => Answered::Text(values::word(line, at, data, out, n)),
-        Keyword::F64 => Answered::Text(values::float64(line, at, out, n)),
-        Keyword::F32 => Answered::Text(values::float32(line, at, out, n)),
-        Keyword::TenThousandths => Answered::Text(values::ten_thousandths(line, at, out, n)),
-        Keyword::CountedList => Answered::Text(values::counted_list(line, at, data, out, n)),
-        Keyword::Code => Answered::Text(names::code(line, at, out, n)),
-        Keyword::Name => Answered::Text(names::name(line, at, out, n)),
-        Keyword::Symbol => Answered::Text(names::symbol(line, at, out, n)),
-        Keyword::Activation => Answered::Text(names::activation(line, at, out, n)),
-        Keyword::ActivationName => Answered::Text(names::activation_name(line, at, out, n)),
-        Keyword::FixedSize => Answered::Text(names::fixed_size(line, at, out, n)),
+        Keyword::Word => Answered::Text(values::word(rest, data, out, n)),
+        Keyword::F64 => Answered::Text(values::float64(rest, out, n)),
+        Keyword::F32 => Answered::Text(values::float32(rest, out, n)),
+        Keyword::TenThousandths => Answered::Text(values::ten_thousandths(rest, out, n)),
+        Keyword::CountedList => Answered::Text(values::counted_list(rest, data, out, n)),
+        Keyword::Code => Answered::Text(names::code(rest, out, n)),
+        Keyword::Name => Answered::Text(names::name(rest, out, n)),
+        Keyword::Symbol => Answered::Text(names::symbol(rest, out, n)),
+        Keyword::Activation => Answered::Text(names::activation(rest, out, n)),
+        Keyword::ActivationName => Answered::Text(names::activation_name(rest, out, n)),
+        Keyword::FixedSize => Answered::Text(names::fixed_size(rest, out, n)),
         Keyword::Unknown => Answered::Unknown,
     }
 }

@@ -38,9 +38,9 @@ fn most_value(family: u64) -> u64
     if family < 6 { U8 } else { U32 }
 }
 
-fn family_and_value(line: &[u8], at: usize) -> Coded {
-    let family = request::number(line, at, 6);
-    let value = request::number(line, family.end, most_value(family.value));
+fn family_and_value(rest: &[u8]) -> Coded {
+    let family = request::number(rest, 0, 6);
+    let value = request::number(rest, family.end, most_value(family.value));
     Coded {
         family: family.value,
         value: value.value as u32,
@@ -48,11 +48,11 @@ fn family_and_value(line: &[u8], at: usize) -> Coded {
     }
 }
 
-pub(crate) fn code(line: &[u8], at: usize, out: &mut [u8], n: usize) -> usize
+pub(crate) fn code(rest: &[u8], out: &mut [u8], n: usize) -> usize
     ensures { λ r. ⌜ r ≤ length (now (out .exit)) ⌝ }
 {
-    let coded = family_and_value(line, at);
-    if coded.end != line.len() {
+    let coded = family_and_value(rest);
+    if coded.end != rest.len() {
         return answer::bad(out, n);
     }
     match codes::decode(family_of(coded.family), coded.value) {
@@ -61,11 +61,11 @@ pub(crate) fn code(line: &[u8], at: usize, out: &mut [u8], n: usize) -> usize
     }
 }
 
-pub(crate) fn symbol(line: &[u8], at: usize, out: &mut [u8], n: usize) -> usize
+pub(crate) fn symbol(rest: &[u8], out: &mut [u8], n: usize) -> usize
     ensures { λ r. ⌜ r ≤ length (now (out .exit)) ⌝ }
 {
-    let coded = family_and_value(line, at);
-    if coded.end != line.len() {
+    let coded = family_and_value(rest);
+    if coded.end != rest.len() {
         return answer::bad(out, n);
     }
     match codes::symbol(family_of(coded.family), coded.value) {
@@ -81,12 +81,12 @@ fn put_name(family: Family, value: u32, lent: &mut [u8], out: &mut [u8], n: usiz
     answer::name(out, n, written, lent)
 }
 
-pub(crate) fn name(line: &[u8], at: usize, out: &mut [u8], n: usize) -> usize
+pub(crate) fn name(rest: &[u8], out: &mut [u8], n: usize) -> usize
     ensures { λ r. ⌜ r ≤ length (now (out .exit)) ⌝ }
 {
-    let coded = family_and_value(line, at);
-    let length = request::number(line, coded.end, LENT);
-    if length.end != line.len() {
+    let coded = family_and_value(rest);
+    let length = request::number(rest, coded.end, LENT);
+    if length.end != rest.len() {
         return answer::bad(out, n);
     }
     let mut text = lent::u8s();
@@ -100,11 +100,11 @@ pub(crate) fn name(line: &[u8], at: usize, out: &mut [u8], n: usize) -> usize
     )
 }
 
-pub(crate) fn activation(line: &[u8], at: usize, out: &mut [u8], n: usize) -> usize
+pub(crate) fn activation(rest: &[u8], out: &mut [u8], n: usize) -> usize
     ensures { λ r. ⌜ r ≤ length (now (out .exit)) ⌝ }
 {
-    let byte = request::number(line, at, U8);
-    if byte.end != line.len() {
+    let byte = request::number(rest, 0, U8);
+    if byte.end != rest.len() {
         return answer::bad(out, n);
     }
     match Activation::from_byte((byte.value % 256) as u8) {
@@ -139,12 +139,12 @@ fn put_activation_name(activation: Activation, lent: &mut [u8], out: &mut [u8], 
     answer::name(out, n, written, lent)
 }
 
-pub(crate) fn activation_name(line: &[u8], at: usize, out: &mut [u8], n: usize) -> usize
+pub(crate) fn activation_name(rest: &[u8], out: &mut [u8], n: usize) -> usize
     ensures { λ r. ⌜ r ≤ length (now (out .exit)) ⌝ }
 {
-    let activation = request::number(line, at, 5);
-    let length = request::number(line, activation.end, LENT);
-    if length.end != line.len() {
+    let activation = request::number(rest, 0, 5);
+    let length = request::number(rest, activation.end, LENT);
+    if length.end != rest.len() {
         return answer::bad(out, n);
     }
     let mut text = lent::u8s();
@@ -152,11 +152,11 @@ pub(crate) fn activation_name(line: &[u8], at: usize, out: &mut [u8], n: usize) 
     put_activation_name(activation_of(activation.value), &mut text[0..count], out, n)
 }
 
-pub(crate) fn fixed_size(line: &[u8], at: usize, out: &mut [u8], n: usize) -> usize
+pub(crate) fn fixed_size(rest: &[u8], out: &mut [u8], n: usize) -> usize
     ensures { λ r. ⌜ r ≤ length (now (out .exit)) ⌝ }
 {
-    let value = request::number(line, at, U32);
-    if value.end != line.len() {
+    let value = request::number(rest, 0, U32);
+    if value.end != rest.len() {
         return answer::bad(out, n);
     }
     match codes::fixed_size(value.value as u32) {

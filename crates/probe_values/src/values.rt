@@ -29,13 +29,13 @@ fn is_size(size: u64) -> bool {
     }
 }
 
-pub(crate) fn word(line: &[u8], at: usize, data: &mut [u8], out: &mut [u8], n: usize) -> usize
+pub(crate) fn word(rest: &[u8], data: &mut [u8], out: &mut [u8], n: usize) -> usize
     ensures { λ r. ⌜ r ≤ length (now (out .exit)) ⌝ }
 {
-    let size = request::number(line, at, 8);
-    let place = request::number(line, size.end, U64);
-    let count = request::bytes(line, place.end, data);
-    if count.end != line.len() {
+    let size = request::number(rest, 0, 8);
+    let place = request::number(rest, size.end, U64);
+    let count = request::bytes(rest, place.end, data);
+    if count.end != rest.len() {
         return answer::bad(out, n);
     }
     if !is_size(size.value) {
@@ -65,19 +65,13 @@ fn put_counted(out: &mut [u8], n: usize, run: &[u8], place: u64, size: u64) -> u
     }
 }
 
-pub(crate) fn counted_list(
-    line: &[u8],
-    at: usize,
-    data: &mut [u8],
-    out: &mut [u8],
-    n: usize,
-) -> usize
+pub(crate) fn counted_list(rest: &[u8], data: &mut [u8], out: &mut [u8], n: usize) -> usize
     ensures { λ r. ⌜ r ≤ length (now (out .exit)) ⌝ }
 {
-    let size = request::number(line, at, U64);
-    let place = request::number(line, size.end, U64);
-    let count = request::bytes(line, place.end, data);
-    if count.end != line.len() {
+    let size = request::number(rest, 0, U64);
+    let place = request::number(rest, size.end, U64);
+    let count = request::bytes(rest, place.end, data);
+    if count.end != rest.len() {
         return answer::bad(out, n);
     }
     let run = request::front(data, count.value);
@@ -101,11 +95,11 @@ fn bits_again32(bits: u32) -> u32 {
     }
 }
 
-pub(crate) fn float64(line: &[u8], at: usize, out: &mut [u8], n: usize) -> usize
+pub(crate) fn float64(rest: &[u8], out: &mut [u8], n: usize) -> usize
     ensures { λ r. ⌜ r ≤ length (now (out .exit)) ⌝ }
 {
-    let field = request::number(line, at, U64);
-    if field.end != line.len() {
+    let field = request::number(rest, 0, U64);
+    if field.end != rest.len() {
         return answer::bad(out, n);
     }
     let bits = field.value;
@@ -115,11 +109,11 @@ pub(crate) fn float64(line: &[u8], at: usize, out: &mut [u8], n: usize) -> usize
     answer::bits64(out, n, bits_again64(bits))
 }
 
-pub(crate) fn float32(line: &[u8], at: usize, out: &mut [u8], n: usize) -> usize
+pub(crate) fn float32(rest: &[u8], out: &mut [u8], n: usize) -> usize
     ensures { λ r. ⌜ r ≤ length (now (out .exit)) ⌝ }
 {
-    let field = request::number(line, at, U32);
-    if field.end != line.len() {
+    let field = request::number(rest, 0, U32);
+    if field.end != rest.len() {
         return answer::bad(out, n);
     }
     let bits = field.value as u32;
@@ -130,11 +124,11 @@ pub(crate) fn float32(line: &[u8], at: usize, out: &mut [u8], n: usize) -> usize
     answer::bits64(out, n, float_bits::bits_of_f64(float_bits::widened(bits)))
 }
 
-pub(crate) fn ten_thousandths(line: &[u8], at: usize, out: &mut [u8], n: usize) -> usize
+pub(crate) fn ten_thousandths(rest: &[u8], out: &mut [u8], n: usize) -> usize
     ensures { λ r. ⌜ r ≤ length (now (out .exit)) ⌝ }
 {
-    let bits = request::number(line, at, U64);
-    if bits.end != line.len() {
+    let bits = request::number(rest, 0, U64);
+    if bits.end != rest.len() {
         return answer::bad(out, n);
     }
     let mz = float_bits::f64_of_bits(bits.value);
