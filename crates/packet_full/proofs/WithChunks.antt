@@ -7,6 +7,7 @@ use mathlib.Core.List.{List, [], _∷_, _++_}
 use lib.Dec.{leb}
 use lib.ListN.{length, length-map}
 use Rattle.refusal.specs.Outcome.{Outcome, ok, refused}
+use Rattle.refusal.proofs.Outcomes.{ok-not-refused, refused-not-ok}
 use Rattle.lists.specs.Left.{fits, ifFits, lengths, overAll, listsIfFit, LeftLists, firsts, seconds}
 use Rattle.lists.proofs.Left.{left-refused, left-written, wrote, stayed, fits-true}
 use Rattle.parser.specs.Walk.{sum}
@@ -102,7 +103,7 @@ module _ (v : PacketPlaces) (c : Contents) (cs : List Chunk) (m a d q b n f w : 
         rw (ap (λ xs. xs ++ (b ∷ n ∷ f ∷ w ∷ [])) (e .1)) (left-refused (go ((recordOf v, c .labels .nodes), listsOf c) roomFor (e .0) ∙ by-groups))
       where
         go : (x : Answer) (y : Bool) → refused number carries ≡ ifFits y x → refused number carries ≡ ifFits (y && chunkRoom cs b n f w) whole
-        go x true h = let z : _≡_ {A = ℕ} 0 1 = cc in absurd (omega arith)
+        go x true h = refused-not-ok h
         go x false h = let i : number ≡ 8 = cc in let j : carries ≡ [] = cc in rw (i, j)
 
     -- both do
@@ -119,4 +120,4 @@ module _ (v : PacketPlaces) (c : Contents) (cs : List Chunk) (m a d q b n f w : 
       where
         go : {x y : Answer} (z : Bool) → ok x ≡ ifFits z y → (z ≡ true) × (x ≡ y)
         go true h = (refl, cc)
-        go false h = let z : _≡_ {A = ℕ} 0 1 = cc in absurd (omega arith)
+        go false h = ok-not-refused h

@@ -2,7 +2,6 @@
 use mathlib.Core.Path.{_≡_, refl, ap, sym, _∙_}
 use Prim.Native.Nat.{ℕ, _+_, _*_, _≤_, _<_}
 use native.Mathlib.Nat.{add-zero, zero-add}
-use native.Mathlib.Omega.{arith}
 use mathlib.Core.Bool.{Bool, true, false}
 use mathlib.Core.List.{List}
 use lib.Dec.{leb}
@@ -11,7 +10,7 @@ use Rattle.lists.specs.Written.{each}
 use Rattle.lists.proofs.Laws.{each-same}
 use Rattle.parser.specs.Parser.{Parser, Parsed, short, parsed, done, bytes, littleEndian, remaining, within, parse, word, repeat, counted, _>>=_}
 use Rattle.parser.specs.Internal.{Sized, value}
-use Rattle.parser.proofs.Prefix.{within-parsed}
+use Rattle.parser.proofs.Prefix.{within-parsed, parsed-not-short, short-not-parsed}
 use Rattle.parser.proofs.Fixed.{parse-stage, sized-word, sized-counted, value-each}
 use Rattle.parser.specs.Walk.{sum}
 use Rattle.parser.proofs.Walk.{total, WalkInvariant, walk-short, walk-all}
@@ -116,14 +115,14 @@ list-short fudged count s start i at w more before h = go (parse (repeat count (
   where
     go : (o : Parsed (List Chunk)) → total points o ≡ short → answer.Short ≡ chunksAnswer o
     go short e = refl
-    go (parsed cs next) e = let c : _≡_ {A = ℕ} 0 1 = cc in absurd (omega arith)
+    go (parsed cs next) e = parsed-not-short e
 
 pub list-all : (fudged : Bool) (count : ℕ) (s : List ℕ) (start : ℕ) {at w : ℕ} → WalkInvariant points (chunk fudged) s start count count at w
     → answer.Chunks (record { points = w; next = at }) ≡ chunksAnswer (parse (repeat count (chunk fudged)) s start)
 list-all fudged count s start {at} {w} before = go (parse (repeat count (chunk fudged)) s start) (walk-all points (chunk fudged) s start count before)
   where
     go : (o : Parsed (List Chunk)) → total points o ≡ parsed w at → answer.Chunks (record { points = w; next = at }) ≡ chunksAnswer o
-    go short e = let c : _≡_ {A = ℕ} 0 1 = cc in absurd (omega arith)
+    go short e = short-not-parsed e
     go (parsed cs next) e =
         let p : sum points cs ≡ w = cc in
         let n : next ≡ at = cc in

@@ -8,9 +8,8 @@ use native.Mathlib.Numerals.{add-one}
 use lib.ListN.{length, getD, drop, drop-of-length-le}
 use lib.Seq.{drop-cons}
 use lib.Dec.{eqb}
-use native.Mathlib.Omega.{arith}
 use borrow.Author.Tests.{eq-eqb, ne-eqb, eqb-true}
-use Rattle.lists.proofs.Cases.{bool-cases}
+use Rattle.lists.proofs.Cases.{bool-cases, false-not-true}
 use Rattle.srm_channels.specs.Channels.{isEvent}
 
 module _ (id : ℕ) (events : List ℕ) (k : ℕ) where
@@ -28,7 +27,7 @@ module _ (id : ℕ) (events : List ℕ) (k : ℕ) where
 
 pub event-bound : (bound id : ℕ) (events : List ℕ) → ((k : ℕ) → getD events k 0 < bound) → isEvent id events ≡ true → id < bound
 unfolding isEvent
-event-bound bound id [] below h = let z : _≡_ {A = ℕ} 0 1 = cc in absurd (omega arith)
+event-bound bound id [] below h = false-not-true h
 event-bound bound id (event ∷ events) below h =
     ⊎-elim
     (λ (e : eqb event id ≡ true). rw (eqb-true event id e) at (below 0))

@@ -15,7 +15,7 @@ use Rattle.refusal.specs.declared.CountAnswer.the-variants.{Count, Refused}
 use Rattle.refusal.proofs.OneAnswer.{count-one}
 use Rattle.lists.specs.Left.{after, fits, lengths, listsIfFit, LeftLists}
 use Rattle.lists.proofs.Left.{fits-true}
-use Rattle.lists.proofs.Cases.{bool-cases}
+use Rattle.lists.proofs.Cases.{bool-cases, false-not-true}
 use Rattle.srm_transition.proofs.Local.{Local, le-there}
 use Rattle.srm_transition.proofs.Places.{places-none, values-longer}
 use Rattle.srm_channels.specs.Channels.{channelTest, channelAt, channelsIn, channelLists, channelList}
@@ -72,7 +72,7 @@ module _ (events : List ℕ) (xs : List (List ℕ)) where
       (λ b.
       ⊎-elim
       (λ a. let e : Refused NoRoom ≡ Count (length (channelsIn events s)) = a .1 in let z : _≡_ {A = ℕ} 0 1 = cc in absurd (omega arith))
-      (λ a. let e : true ≡ false = sym (fits-before s t (b .0)) ∙ a .0 in let z : _≡_ {A = ℕ} 0 1 = cc in absurd (omega arith))
+      (λ a. false-not-true (sym (a .0) ∙ fits-before s t (b .0)))
       (answers s (Refused NoRoom) ys m))
       (λ b. b)
       (answers (s ++ t) q zs l)

@@ -1,13 +1,13 @@
 -- What a flat record answers, by what its attempts come to.
 use mathlib.Core.Path.{_≡_, refl, ap, sym}
 use Prim.Native.Nat.{ℕ, _*_, _-_, _≤_, _<_}
-use native.Mathlib.Omega.{arith}
 use mathlib.Core.Bool.{Bool, true, false, cond, _||_}
 use mathlib.Core.List.{List, [], _∷_}
 use lib.Dec.{leb, ltb}
 use lib.ListN.{length}
 use borrow.Author.Tests.{le-leb, lt-leb}
 use Rattle.refusal.specs.Outcome.{Outcome, ok, refused, ranOut}
+use Rattle.refusal.proofs.Outcomes.{ok-not-refused, refused-not-ok}
 use Rattle.lists.specs.Left.{pairsIfFit}
 use Rattle.lists.proofs.Laws.{each-none}
 use Rattle.parser.specs.Parser.{done, seek, Parsed, short, parsed, remaining, within, parse, saturatingAdd}
@@ -138,13 +138,13 @@ module _ {A : Type 0} (follow : List Peak → Outcome A) (place cumEnd dataSize 
     where
       go : (o : Parsed Attempt) → Stands s o → ok (p, n) ≡ onward 4 o (λ v _. ofAccepted foundAt v)
           → follow (peaksAt false 8 s p n) ≡ onward 4 o (λ v _. ofAccepted (λ _ peaks. follow peaks) v)
-      go short h e = let z : _≡_ {A = ℕ} 0 1 = cc in absurd (omega arith)
+      go short h e = ok-not-refused e
       go (parsed (accepted q peaks) next) h e =
           let pair : _≡_ {A = ℕ × ℕ} (p, n) (q, length peaks) = cc in
           let here : p ≡ q = ap (λ (z : ℕ × ℕ). z .0) pair in
           let count : n ≡ length peaks = ap (λ (z : ℕ × ℕ). z .1) pair in
           rw (here, count) (ap follow (sym h))
-      go (parsed passedOver next) h e = let z : _≡_ {A = ℕ} 0 1 = cc in absurd (omega arith)
+      go (parsed passedOver next) h e = ok-not-refused e
 
   pub then-refused : {number : ℕ} {carries : List ℕ} → refused number carries ≡ findFlatPeaks place cumEnd dataSize s
       → refused number carries ≡ outcome (single 4 (saturatingAdd place cumEnd) (flatPeaks (saturatingAdd place cumEnd) cumEnd dataSize) (λ v _. ofAccepted (λ _ peaks. follow peaks) v)) s
@@ -156,7 +156,7 @@ module _ {A : Type 0} (follow : List Peak → Outcome A) (place cumEnd dataSize 
       go : (o : Parsed Attempt) → refused number carries ≡ onward 4 o (λ v _. ofAccepted foundAt v)
           → refused number carries ≡ onward 4 o (λ v _. ofAccepted (λ _ peaks. follow peaks) v)
       go short e = let q : number ≡ 1 = cc in let r : carries ≡ 4 ∷ [] = cc in rw (q, r)
-      go (parsed (accepted q peaks) next) e = let z : _≡_ {A = ℕ} 0 1 = cc in absurd (omega arith)
+      go (parsed (accepted q peaks) next) e = refused-not-ok e
       go (parsed passedOver next) e = let q : number ≡ 2 = cc in let r : carries ≡ [] = cc in rw (q, r)
 
 module _ (place cumEnd dataSize : ℕ) (s : List ℕ) (m a : ℕ) where

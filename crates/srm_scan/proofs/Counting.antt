@@ -8,6 +8,7 @@ use mathlib.Core.List.{List, []}
 use lib.Dec.{leb, eqb}
 use borrow.Author.Tests.{leb-true, le-leb, lt-leb, eq-eqb, ne-eqb}
 use Rattle.refusal.specs.Outcome.{Outcome, ok, ranOut, andThen}
+use Rattle.refusal.proofs.Outcomes.{ok-not-refused}
 use Rattle.parser.specs.Parser.{Parser, done, parsed, bytes, littleEndian, remaining, within, parse, word, skip, _>>_}
 use Rattle.parser.specs.Call.{onward, outcome, single}
 use Rattle.parser.specs.Internal.{Sized, value}
@@ -44,9 +45,9 @@ channels-there size s at n =
   where
     go : (a b c : Bool) → (a ≡ true → 4 ≤ remaining s at) → (c ≡ true → 28 + littleEndian (bytes s at 4) * size ≤ remaining s (at + 4))
         → ok n ≡ cond a (cond b (ok 0) (cond c (ok (littleEndian (bytes s at 4))) (ranOut 4))) (ranOut 4) → (4 ≤ remaining s at) × (n * size ≤ remaining s at)
-    go false b c f g e = let z : _≡_ {A = ℕ} 0 1 = cc in absurd (omega arith)
+    go false b c f g e = ok-not-refused e
     go true true c f g e = let z : n ≡ 0 = cc in (f refl, rw (z, zero-mul size) (omega arith))
-    go true false false f g e = let z : _≡_ {A = ℕ} 0 1 = cc in absurd (omega arith)
+    go true false false f g e = ok-not-refused e
     go true false true f g e = let z : n ≡ littleEndian (bytes s at 4) = cc in (f refl, rw z (omega (arith, g refl)))
 
 -- a scan is one test for its count and one for all that follows, for both tables
