@@ -4,10 +4,10 @@ use probe_text::answer;
 
 pub(crate) fn answer_request(line: &[u8], data: &mut [u8], out: &mut [u8], n: usize) -> usize {
     let end = bytes::scan::find(line, 0, line.len(), b' ');
-    of_parts(&line[0..end], &line[end..], data, out, n)
+    of_requests(&line[0..end], &line[end..], data, out, n)
 }
 
-fn of_parts(word: &[u8], rest: &[u8], data: &mut [u8], out: &mut [u8], n: usize) -> usize {
+fn of_requests(word: &[u8], rest: &[u8], data: &mut [u8], out: &mut [u8], n: usize) -> usize {
     match probe_requests::answer(word, rest, data, out, n) {
         Answered::Text(n) => n,
         Answered::Unknown => of_trays(word, rest, data, out, n),

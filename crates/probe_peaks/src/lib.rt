@@ -26,16 +26,16 @@ enum Reading {
 }
 
 // The fields DATA and OFFSET, and where they end.
-struct Places {
+struct DataAndOffset {
     data: u64,
     offset: u64,
     end: usize,
 }
 
-fn two_places(rest: &[u8]) -> Places {
+fn data_and_offset(rest: &[u8]) -> DataAndOffset {
     let data = request::number(rest, 0, U64);
     let offset = request::number(rest, data.end, U64);
-    Places {
+    DataAndOffset {
         data: data.value,
         offset: offset.value,
         end: offset.end,
@@ -96,11 +96,11 @@ fn peaks(rest: &[u8], data: &mut [u8], out: &mut [u8], n: usize) -> usize
 fn flat(rest: &[u8], data: &mut [u8], out: &mut [u8], n: usize) -> usize
     ensures { λ r. ⌜ r ≤ length (now (out .exit)) ⌝ }
 {
-    let places = two_places(rest);
-    let size = request::number(rest, places.end, U32);
+    let start = data_and_offset(rest);
+    let size = request::number(rest, start.end, U32);
     let reading = Reading::Flat {
-        data: places.data,
-        offset: places.offset,
+        data: start.data,
+        offset: start.offset,
         size: size.value as u32,
     };
     peaks_by(reading, rest, size.end, data, out, n)
@@ -109,18 +109,18 @@ fn flat(rest: &[u8], data: &mut [u8], out: &mut [u8], n: usize) -> usize
 fn srm(rest: &[u8], data: &mut [u8], out: &mut [u8], n: usize) -> usize
     ensures { λ r. ⌜ r ≤ length (now (out .exit)) ⌝ }
 {
-    let places = two_places(rest);
+    let start = data_and_offset(rest);
     let reading = Reading::Srm {
-        data: places.data,
-        offset: places.offset,
+        data: start.data,
+        offset: start.offset,
     };
-    peaks_by(reading, rest, places.end, data, out, n)
+    peaks_by(reading, rest, start.end, data, out, n)
 }
 
 // The windows of a record, and the slices that are lent for them.
 fn put_windows(
     run: &[u8],
-    places: Places,
+    start: DataAndOffset,
     lows: &mut [u32],
     highs: &mut [u32],
     out: &mut [u8],
@@ -128,7 +128,7 @@ fn put_windows(
 ) -> usize
     ensures { λ r. ⌜ r ≤ length (now (out .exit)) ⌝ }
 {
-    let answer = read_scan_srm_v66_windows(run, places.data, places.offset, lows, highs);
+    let answer = read_scan_srm_v66_windows(run, start.data, start.offset, lows, highs);
     let n = answer::count(out, n, answer);
     let n = answer::slice32(out, n, lows);
     answer::slice32(out, n, highs)
@@ -137,8 +137,8 @@ fn put_windows(
 fn srm_windows(rest: &[u8], data: &mut [u8], out: &mut [u8], n: usize) -> usize
     ensures { λ r. ⌜ r ≤ length (now (out .exit)) ⌝ }
 {
-    let places = two_places(rest);
-    let lent = request::lent_lengths(rest, places.end);
+    let start = data_and_offset(rest);
+    let lent = request::lent_lengths(rest, start.end);
     let count = request::bytes(rest, lent.end, data);
     if count.end != rest.len() {
         return answer::bad(out, n);
@@ -148,7 +148,7 @@ fn srm_windows(rest: &[u8], data: &mut [u8], out: &mut [u8], n: usize) -> usize
     let mut highs = lent::u32s();
     let l = lent.first;
     let h = lent.second;
-    put_windows(run, places, &mut lows[0..l], &mut highs[0..h], out, n)
+    put_windows(run, start, &mut lows[0..l], &mut highs[0..h], out, n)
 }
 
 fn put_place(out: &mut [u8], n: usize, found: PeaksPlace) -> usize
@@ -166,31 +166,27 @@ fn put_place(out: &mut [u8], n: usize, found: PeaksPlace) -> usize
 fn find_flat(rest: &[u8], data: &mut [u8], out: &mut [u8], n: usize) -> usize
     ensures { λ r. ⌜ r ≤ length (now (out .exit)) ⌝ }
 {
-    let places = two_places(rest);
-    let size = request::number(rest, places.end, U32);
+    let start = data_and_offset(rest);
+    let size = request::number(rest, start.end, U32);
     let count = request::bytes(rest, size.end, data);
     if count.end != rest.len() {
         return answer::bad(out, n);
     }
     let run = request::front(data, count.value);
     let size = size.value as u32;
-    put_place(
-        out,
-        n,
-        find_flat_peaks(run, places.data, places.offset, size),
-    )
+    put_place(out, n, find_flat_peaks(run, start.data, start.offset, size))
 }
 
 fn find_srm(rest: &[u8], data: &mut [u8], out: &mut [u8], n: usize) -> usize
     ensures { λ r. ⌜ r ≤ length (now (out .exit)) ⌝ }
 {
-    let places = two_places(rest);
-    let count = request::bytes(rest, places.end, data);
+    let start = data_and_offset(rest);
+    let count = request::bytes(rest, start.end, data);
     if count.end != rest.len() {
         return answer::bad(out, n);
     }
     let run = request::front(data, count.value);
-    put_place(out, n, find_srm_peaks(run, places.data, places.offset))
+    put_place(out, n, find_srm_peaks(run, start.data, start.offset))
 }
 
 // The request words that are answered here.

@@ -1,10 +1,8 @@
-// Scan k of a tray, and where its events stand. The header is read once by each call.
+// Scan k of a tray, and where its events stand.
 ghost use mathlib.Core.Path.{_≡_};
 ghost use mathlib.Core.List.{[], _∷_};
-ghost use Prim.Native.Nat.{_<_};
 ghost use Rattle.refusal.specs.Number.{outcomeOfCount};
 ghost use Rattle.lists.specs.Left.{LeftListsAndPairs};
-ghost use Rattle.events.specs.Event.{eventPlace};
 ghost use Rattle.tray_header.specs.Header.{outcomeOf as outcomeOfHeader};
 ghost use Rattle.tray_scan.specs.Scan.{placeOrEnd, outcomeOf};
 ghost use Rattle.tray.specs.Scan.{headerWith, readScan, readScanFrom, eventOf, nextEvent};
@@ -12,7 +10,6 @@ use events::event_end;
 use events::event_place;
 use refusal::CountAnswer;
 use refusal::Refusal;
-use tray_header::TrayHeader;
 use tray_header::TrayHeaderAnswer;
 use tray_header::read_tray_header;
 use tray_scan::ScanAnswer;
@@ -69,28 +66,20 @@ pub fn read_scan_from(
     }
 }
 
-// Where event k stands in a run.
-fn find_place(run: &[u8], h: TrayHeader, k: u32) -> CountAnswer
-    requires { ⌜ k < 4096 ⌝ }
-    ensures { λ r. ⌜ outcomeOfCount r ≡ eventPlace (h .version) (h .primary) (h .dependent) (h .events) k (now (run .entry)) ⌝ }
-{
-    event_place(
-        run,
-        h.events as u64,
-        k as u16,
-        h.version,
-        h.primary,
-        h.dependent,
-    )
-}
-
 // Where event k stands in the run.
 pub fn event_of(tray: &[u8], k: u32) -> CountAnswer
     ensures { λ r. ⌜ outcomeOfCount r ≡ eventOf 4096 6 k (now (tray .entry)) ⌝ }
 {
     match header_with(tray, k) {
         TrayHeaderAnswer::Refused(r) => CountAnswer::Refused(r),
-        TrayHeaderAnswer::Header(h) => find_place(&tray[32..], h, k),
+        TrayHeaderAnswer::Header(h) => event_place(
+            &tray[32..],
+            h.events as u64,
+            k as u16,
+            h.version,
+            h.primary,
+            h.dependent,
+        ),
     }
 }
 
