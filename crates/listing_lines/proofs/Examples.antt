@@ -32,10 +32,10 @@ pub scan : scanLines 0 0 (example ∷ []) (two ∷ []) ≡ ascii "S 0 1 0\n50003
 unfolding digit decimalBy decimal hexadecimal toBits le ofInt largestMass scaled tenThousandths scanLines
 scan = refl
 
--- masses that are not listed, a NaN among them, and a mass without its intensity
-pub unlisted : scanLines 12 7 (nan ∷ inf false ∷ largestMass ∷ two ∷ []) (nan ∷ inf true ∷ fin true 1 (negsuc 0) ∷ []) ≡ ascii "S 12 3 7\n- 7ff8000000000000\n- fff0000000000000\n500000000 bfe0000000000000\n"
+-- masses that have no ten-thousandths, a NaN among them, and a mass without its intensity
+pub dashes : scanLines 12 7 (nan ∷ inf false ∷ largestMass ∷ two ∷ []) (nan ∷ inf true ∷ fin true 1 (negsuc 0) ∷ []) ≡ ascii "S 12 3 7\n- 7ff8000000000000\n- fff0000000000000\n500000000 bfe0000000000000\n"
 unfolding digit decimalBy decimal hexadecimal toBits le ofInt largestMass scaled tenThousandths scanLines
-unlisted = refl
+dashes = refl
 
 -- a NaN's pattern with another sign and other digits is the same NaN
 pub one-nan : bitsText (ofBits binary64 0xfff0_0000_0000_0001) ≡ ascii "7ff8000000000000"

@@ -20,11 +20,11 @@ use Rattle.float_bits.specs.Exact.{num, den}
 use Rattle.float_bits.specs.Rounding.{nearestHalfUp}
 use Rattle.float_bits.proofs.Exact.{num-is, den-is}
 use Rattle.float_bits.proofs.Rounding.{half-up-is}
-use Rattle.listing_lines.specs.Lines.{decimal, line, listed, massText, bitsText, partIn, trayLine, refusalLine, pairLines, scanLines}
+use Rattle.listing_lines.specs.Lines.{decimal, line, numberOrDash, massText, bitsText, partIn, trayLine, refusalLine, pairLines, scanLines}
 use Rattle.listing_lines.proofs.Digits.{decimal-length, hexadecimal-length}
 use Rattle.float_bits.specs.Numbers.{zeroF, largestMass}
 
--- ---- a mass that is listed has at most 9 digits
+-- ---- a mass in ten-thousandths has at most 9 digits
 at-most : (a b : ℕ) (t : Bool) → T (ltb a b || (eqb a b && t)) → a ≤ b
 at-most a b t h = go (ltb a b) (ltb→lt a b) h
   where
@@ -56,7 +56,7 @@ pub mass-most : (mz : Float) → length (massText mz) ≤ 9
 unfolding tenThousandths scaled
 mass-most mz = go (le zeroF mz) (le mz largestMass) (fraction-most mz)
   where
-    go : (above below : Bool) → (T above → T below → num mz ≤ 50000 * den mz) → length (listed (cond (above && below) (ok (nearestHalfUp (num mz * 10000) (den mz))) (refused 9 []))) ≤ 9
+    go : (above below : Bool) → (T above → T below → num mz ≤ 50000 * den mz) → length (numberOrDash (cond (above && below) (ok (nearestHalfUp (num mz * 10000) (den mz))) (refused 9 []))) ≤ 9
     go true true h = decimal-length 8 _ (nearest-most (num mz) (den mz) (rw (den-is mz) (den-pos mz)) (h tt tt))
     go true false h = omega arith
     go false below h = omega arith

@@ -29,12 +29,12 @@ line (field ∷ []) = field ++ ascii "\n"
 line (field ∷ next ∷ others) = field ++ (ascii " " ++ line (next ∷ others))
 
 -- an m/z in ten-thousandths, or `-` where it has none
-abbrev pub listed : Outcome ℕ → List ℕ
-listed (ok n) = decimal n
-listed (refused number carries) = ascii "-"
+abbrev pub numberOrDash : Outcome ℕ → List ℕ
+numberOrDash (ok n) = decimal n
+numberOrDash (refused number carries) = ascii "-"
 
 abbrev pub massText : Float → List ℕ
-massText mz = listed (tenThousandths mz)
+massText mz = numberOrDash (tenThousandths mz)
 
 -- an intensity's bits in 16 hexadecimal digits. `Float` has one NaN, and its bits are 7ff8000000000000
 abbrev pub bitsText : Float → List ℕ
