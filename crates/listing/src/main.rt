@@ -1,5 +1,5 @@
-// Lists the tray on standard input, in the lines of document 01. The texts are made by `listing_tray`, scan by scan. An input
-// that cannot be read is no tray: standard error says what happened.
+// Lists the tray on standard input, in the lines of document 01 but for the pairs that are not listed (L1). The texts are made by
+// `listing_tray`, scan by scan. An input that cannot be read is no tray: standard error says what happened.
 ghost use mathlib.Core.Path.{_≡_};
 ghost use Prim.Native.Nat.{suc, _≤_, _<_};
 ghost use lib.ListN.{length, drop};

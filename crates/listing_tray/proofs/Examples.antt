@@ -2,7 +2,7 @@
 use mathlib.Core.Path.{_≡_, refl}
 use Prim.Native.Nat.{ℕ}
 use mathlib.Core.List.{List, [], _∷_, _++_}
-use lib.Ieee.{ofBits, toBits, ofInt, round, eq, lt, le}
+use lib.Ieee.{ofBits, toBits, ofInt, round, eq, ne, lt, le}
 use lib.ListN.{replicate}
 use Rattle.lists.specs.Written.{each, over}
 use Rattle.lists.specs.Left.{listsAndPairsIfFit}
@@ -43,5 +43,17 @@ run =
 
 pub worked-case : listing (words ++ run)
     ≡ ascii "T 8 1" ++ 10 ∷ (ascii "S 0 1 0" ++ 10 ∷ (ascii "5000313 4000000000000000" ++ 10 ∷ []))
-unfolding ofBits toBits ofInt round eq lt le each over parse repeat outcome sizeForVersion formatOf layout describe reaction before66 eventLayout event counted peaksFrom attempt attempts flatPeaks peak peakPairs scaled tenThousandths largestMass digit decimalBy decimal hexadecimal trayLine scanLines header judged readHeader scanData pairs entryIn scanParts listsAndPairsIfFit scanIfFits headerWith readScan scansText listing
+unfolding ofBits toBits ofInt round eq ne lt le each over parse repeat outcome sizeForVersion formatOf layout describe reaction before66 eventLayout event counted peaksFrom attempt attempts flatPeaks peak peakPairs scaled tenThousandths largestMass digit decimalBy decimal hexadecimal trayLine scanLines header judged readHeader scanData pairs entryIn scanParts listsAndPairsIfFit scanIfFits headerWith readScan scansText listing
 worked-case = refl
+
+-- L1, on the same tray with three peaks: the first has m/z -0, the last m/z 0 and an intensity
+abbrev channels : List ℕ
+channels =
+    27 ∷ (replicate 19 0 ++ 4 ∷ (replicate 51 0 ++ (replicate 77 0
+    ++ (0x00 ∷ 0x00 ∷ 0x00 ∷ 0x80 ∷ 0x00 ∷ 0x00 ∷ 0x00 ∷ 0x00
+    ∷ 0x00 ∷ 0x04 ∷ 0xfa ∷ 0x43 ∷ 0x00 ∷ 0x00 ∷ 0x00 ∷ 0x40
+    ∷ 0x00 ∷ 0x00 ∷ 0x00 ∷ 0x00 ∷ 0x00 ∷ 0x00 ∷ 0x00 ∷ 0x40 ∷ 0 ∷ 0 ∷ 0 ∷ []))))
+
+pub empty-channels : listing (words ++ channels) ≡ listing (words ++ run)
+unfolding ofBits toBits ofInt round eq ne lt le each over parse repeat outcome sizeForVersion formatOf layout describe reaction before66 eventLayout event counted peaksFrom attempt attempts flatPeaks peak peakPairs scaled tenThousandths largestMass digit decimalBy decimal hexadecimal trayLine scanLines header judged readHeader scanData pairs entryIn scanParts listsAndPairsIfFit scanIfFits headerWith readScan scansText listing
+empty-channels = refl

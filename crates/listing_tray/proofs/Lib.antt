@@ -1,4 +1,5 @@
 pub mod Texts
+pub mod EmptyChannels
 pub mod Listing
 pub mod LongerBytes
 pub mod Examples

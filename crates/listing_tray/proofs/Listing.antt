@@ -15,9 +15,11 @@ use Rattle.events.proofs.Steps.{place-none, place-more, none-after}
 use Rattle.pairs.specs.Pairs.{Pair}
 use Rattle.listing_lines.specs.Lines.{line}
 use Rattle.listing_lines.proofs.Room.{scan-room}
+use Rattle.listing_pairs.specs.Listed.{listedPairs}
+use Rattle.listing_pairs.proofs.Keeping.{listed-length}
 use Rattle.tray_header.specs.Header.{readTrayHeader}
 use Rattle.tray_header.specs.declared.TrayHeader.{TrayHeader}
-use Rattle.tray_scan.specs.Scan.{WrittenScan, scanAt, endIn, placeOrEnd}
+use Rattle.tray_scan.specs.Scan.{WrittenScan, formatIn, scanAt, endIn, placeOrEnd}
 use Rattle.tray_scan.proofs.Consistent.{consistent}
 use Rattle.tray.proofs.Headers.{has-scan}
 use Rattle.tray.proofs.Walk.{placeIn, scan-in}
@@ -40,14 +42,14 @@ module _ (h : TrayHeader) (run : List ℕ) (few : length run < 2 ^ 63) where
 
 -- ---- the whole listing
 module _ (s : List ℕ) (size : length s < 2 ^ 63) where
-  scans-are : {h : TrayHeader} → ok h ≡ readTrayHeader s → (n : ℕ) → n ≤ h .scans → scansText n s ≡ walkedScans h n (drop 32 s)
+  scans-are : {h : TrayHeader} → ok h ≡ readTrayHeader s → (n : ℕ) → n ≤ h .scans → scansText (formatIn h) n s ≡ walkedScans h n (drop 32 s)
   unfolding scansText walkedScans
   scans-are e zero l = refl
   scans-are {h} e (suc n) l =
       let short : length (drop 32 s) < 2 ^ 63 = simp length-drop (omega arith) in
       rw (scans-are e n (omega arith), scan-in 4096 6 s capacities n (has-scan 4096 6 s n e (omega arith)) size (place-is h (drop 32 s) short n))
 
-  text-is : (o : Outcome TrayHeader) → o ≡ readTrayHeader s → trayText (λ h. scansText (h .scans) s) o ≡ trayText (λ h. walkedScans h (h .scans) (drop 32 s)) o
+  text-is : (o : Outcome TrayHeader) → o ≡ readTrayHeader s → trayText (λ h. scansText (formatIn h) (h .scans) s) o ≡ trayText (λ h. walkedScans h (h .scans) (drop 32 s)) o
   text-is (ok h) e = ap (λ l. headerText (ok h) ++ l) (scans-are e (h .scans) (omega arith))
   text-is (refused n carries) e = refl
 
@@ -56,17 +58,19 @@ unfolding listing walked
 listing-walked s = go (ltb 24576 (length s)) refl
   where
     go : (long : Bool) → ltb 24576 (length s) ≡ long
-        → cond long (line (ascii "L" ∷ [])) (trayText (λ h. scansText (h .scans) s) (readTrayHeader s))
+        → cond long (line (ascii "L" ∷ [])) (trayText (λ h. scansText (formatIn h) (h .scans) s) (readTrayHeader s))
         ≡ cond long (line (ascii "L" ∷ [])) (trayText (λ h. walkedScans h (h .scans) (drop 32 s)) (readTrayHeader s))
     go true b = refl
     go false b = let few = ltb-false 24576 (length s) b in text-is s (omega arith) (readTrayHeader s) refl
 
 -- the lines of a scan take at most 55,360 bytes, and those of a refusal 64 (listing_lines/proofs/Room.antt)
-pub scan-fits : (h : TrayHeader) (k at : ℕ) (s : List ℕ) → k < 2 ^ 32 → {v : WrittenScan} → ok v ≡ scanAt capacities h k at s → length (scanText k (ok v)) ≤ 55360
+pub scan-fits : (h : TrayHeader) (k at : ℕ) (s : List ℕ) → k < 2 ^ 32 → {v : WrittenScan} → ok v ≡ scanAt capacities h k at s → length (scanText (formatIn h) k (ok v)) ≤ 55360
 scan-fits h k at s small {v} e =
     let w = consistent 136 64 64 64 2048 2048 h k at s e in
-    let m = length-map (v .2) (λ (x : Pair). x .0) in
-    let i = length-map (v .2) (λ (x : Pair). x .1) in
-    let few : min (length (firsts (v .2))) (length (seconds (v .2))) < 2 ^ 64 = omega (arith, m, i, w .in-mz) in
-    let room = scan-room k (v .0 .event .coefficients) (firsts (v .2)) (seconds (v .2)) small (omega (arith, w .in-coefficients)) few in
-    omega (arith, room, m, w .in-mz)
+    let ps = listedPairs (formatIn h) (v .2) in
+    let some = listed-length (formatIn h) (v .2) in
+    let m = length-map ps (λ (x : Pair). x .0) in
+    let i = length-map ps (λ (x : Pair). x .1) in
+    let few : min (length (firsts ps)) (length (seconds ps)) < 2 ^ 64 = omega (arith, m, i, some, w .in-mz) in
+    let room = scan-room k (v .0 .event .coefficients) (firsts ps) (seconds ps) small (omega (arith, w .in-coefficients)) few in
+    omega (arith, room, m, some, w .in-mz)

@@ -28,7 +28,7 @@ use Rattle.tray_header.specs.declared.TrayHeaderAnswer.{TrayHeaderAnswer}
 use Rattle.tray_header.specs.declared.TrayHeaderAnswer.the-variants as headerAnswer
 use Rattle.tray_header.proofs.Found.{Words}
 use Rattle.tray_header.proofs.LongerBytes.{tray-header-prefix, tray-header-completes}
-use Rattle.tray_scan.specs.Scan.{WrittenScan, scanAt, endIn, placeOrEnd, outcomeOf}
+use Rattle.tray_scan.specs.Scan.{WrittenScan, formatIn, scanAt, endIn, placeOrEnd, outcomeOf}
 use Rattle.tray_scan.specs.declared.ScanAnswer.{ScanAnswer}
 use Rattle.tray_scan.specs.declared.ScanAnswer.the-variants as answer
 use Rattle.tray_scan.proofs.LongerBytes.{AtNear, scan-at-prefix, scan-at-names, scan-at-completes, next-stays}
@@ -145,7 +145,7 @@ listedScan written next = record { written = written; next = next }
 
 module _ (h : TrayHeader) (k at : ℕ) where
   abbrev pub scanTextOn : List ℕ → List ℕ
-  scanTextOn s = scanText k (scanAt capacities h k at s)
+  scanTextOn s = scanText (formatIn h) k (scanAt capacities h k at s)
 
   -- what `scan_at` answers, and what `list_scan` does
   abbrev pub Reads : List ℕ → ScanAnswer → Type 0
@@ -154,15 +154,15 @@ module _ (h : TrayHeader) (k at : ℕ) where
   abbrev pub Lists : List ℕ → List ℕ → ListedScan → List ℕ → Type 0
   Lists s xs r ys = LeftList (scanTextOn s) xs (r .written) ys × (r .next ≡ placeOrEnd (endIn h at s))
 
-  scan-value : (v : WrittenScan) (part : Part) → scanText k (ok v) ≡ ranOutLine k part → ⊥
+  scan-value : (v : WrittenScan) (part : Part) → scanText (formatIn h) k (ok v) ≡ ranOutLine k part → ⊥
   unfolding scanLines
   scan-value v part e = let n : _≡_ {A = ℕ} 83 88 = cc in omega arith
 
   pub list-scan-stays : (s t xs ys zs : List ℕ) (r q : ListedScan) → Lists s xs r ys → Lists (s ++ t) xs q zs
       → ((part : ℕ) → scanTextOn s ≡ refusedLine k 1 (part ∷ []) → ⊥) → (q ≡ r) × (zs ≡ ys)
   list-scan-stays s t xs ys zs r q l m never =
-      let both = text-stays k (scanText k) (λ _ _. refl) scan-value (scanAt capacities h k at) (scan-at-prefix h k at capacities) s t xs ys zs (r .written) (q .written) (l .0) (m .0) never in
-      let next : q .next ≡ r .next = m .1 ∙ ap placeOrEnd (next-stays h k at capacities s t (λ part e. never part (ap (scanText k) e))) ∙ sym (l .1) in
+      let both = text-stays k (scanText (formatIn h) k) (λ _ _. refl) scan-value (scanAt capacities h k at) (scan-at-prefix h k at capacities) s t xs ys zs (r .written) (q .written) (l .0) (m .0) never in
+      let next : q .next ≡ r .next = m .1 ∙ ap placeOrEnd (next-stays h k at capacities s t (λ part e. never part (ap (scanText (formatIn h) k) e))) ∙ sym (l .1) in
       (ap (λ x. listedScan x (q .next)) (both .0) ∙ ap (listedScan (r .written)) next, both .1)
 
   -- the header's part is named by no text: it is read before
@@ -170,7 +170,7 @@ module _ (h : TrayHeader) (k at : ℕ) where
       → AtNear h k at (partNumber part) s → Reads s x → scanTextOn s ≡ ranOutLine k part
       → (t : List ℕ) × Held (s ++ t) × ((y : ScanAnswer) → Reads (s ++ t) y → scanTextOn (s ++ t) ≡ ranOutLine k part → ⊥)
   list-scan-completes words small part s x isBytes few near e i =
-      let o = text-one k (scanText k) (λ _ _. refl) scan-value (scanAt capacities h k at s) part (scan-outcome x (scanAt capacities h k at s) e) i in
+      let o = text-one k (scanText (formatIn h) k) (λ _ _. refl) scan-value (scanAt capacities h k at s) part (scan-outcome x (scanAt capacities h k at s) e) i in
       let p = scan-at-names h k at capacities s (partNumber part) o in
-      let w = text-completes k (scanText k) (λ _ _. refl) scan-value (scanAt capacities h k at) part s (scan-at-completes h k at capacities words small (partNumber part) p s isBytes few near) (scan-outcome x (scanAt capacities h k at s) e) i in
+      let w = text-completes k (scanText (formatIn h) k) (λ _ _. refl) scan-value (scanAt capacities h k at) part s (scan-at-completes h k at capacities words small (partNumber part) p s isBytes few near) (scan-outcome x (scanAt capacities h k at s) e) i in
       (w .0, w .1, λ y f. w .2 (scan-outcome y (scanAt capacities h k at (s ++ w .0)) f))

@@ -64,10 +64,17 @@ fn entry_of(run: &[u8], h: TrayHeader, k: u32) -> EntryAnswer
     ScanIndexEntry::read(run, h.index as u64 + k as u64 * size, h.version)
 }
 
+// The format of a tray's scans, by its header.
+pub fn format_in(h: TrayHeader) -> ScanDataFormat
+    ensures { λ r. ⌜ r ≡ formatIn h ⌝ }
+{
+    ScanDataFormat::detect(h.version, h.flat == 1)
+}
+
 fn data_of(run: &[u8], h: TrayHeader, entry: ScanIndexEntry) -> DataAnswer
     ensures { λ r. ⌜ outcomeOfData r ≡ findData (formatIn h) (h .«data») (entry .offset) (entry .«data_size») (now (run .entry)) ⌝ }
 {
-    let format = ScanDataFormat::detect(h.version, h.flat == 1);
+    let format = format_in(h);
     find_data(run, format, h.data as u64, entry.offset, entry.data_size)
 }
 
