@@ -1,6 +1,8 @@
-//! The listing of a tray: document 01's lines, made here from whole numbers alone.
+//! The listing of a tray: document 01's lines of the pairs that document 02's L1 leaves, made here from whole numbers alone.
 
-use crate::answer::made_bits64;
+use crate::answer::{made_bits64, Answers};
+use crate::request::Fields;
+use crate::scan_format::ScanDataFormat;
 use crate::tray::{Refusal, Scan, Tray, TOO_SHORT};
 use std::fmt::Write as _;
 use std::io::{BufRead, Error, ErrorKind, Read, Write};
@@ -49,7 +51,7 @@ fn listing(tray: &[u8]) -> String {
         text += &match tray.scan(k, None) {
             Err(refusal) => refusal_line(k, &refusal),
             Ok(scan) if !fits(&scan) => refusal_line(k, &TOO_SHORT),
-            Ok(scan) => scan_lines(k, &scan),
+            Ok(scan) => scan_lines(k, &scan, tray.format()),
         };
     }
     text
@@ -66,10 +68,36 @@ fn refusal_line(number: u32, refusal: &Refusal) -> String {
     format!("X {number} {} {}\n", refusal.number(), refusal.part())
 }
 
-fn scan_lines(number: u32, scan: &Scan) -> String {
+/// L1: a flat scan's pairs of zero m/z, of either sign, are not listed. A zero has no bit but its sign.
+fn is_listed(format: ScanDataFormat, mz: f64) -> bool {
+    !format.is_flat() || mz.to_bits() << 1 != 0
+}
+
+pub fn listed(fields: &mut Fields, out: &mut Answers) -> Option<()> {
+    let format = fields.format()?;
+    let mut masses = fields.f64s()?;
+    let mut intensities = fields.f64s()?;
+    fields.end()?;
+    let mut pairs: Vec<_> = masses.iter().copied().zip(intensities.iter().copied()).collect();
+    pairs.retain(|(mz, _)| is_listed(format, *mz));
+    for (at, (mz, intensity)) in pairs.iter().enumerate() {
+        masses[at] = *mz;
+        intensities[at] = *intensity;
+    }
+    let bits = |floats: &[f64]| floats.iter().copied().map(made_bits64).collect::<Vec<_>>();
+    out.ok()
+        .number(pairs.len())
+        .slice64(&bits(&masses))
+        .slice64(&bits(&intensities));
+    Some(())
+}
+
+fn scan_lines(number: u32, scan: &Scan, format: ScanDataFormat) -> String {
     let coefficients = scan.event.coefficients().len();
-    let mut text = format!("S {number} {} {coefficients}\n", scan.pairs.len());
-    for (mz, intensity) in &scan.pairs {
+    let mut listed = scan.pairs.clone();
+    listed.retain(|(mz, _)| is_listed(format, *mz));
+    let mut text = format!("S {number} {} {coefficients}\n", listed.len());
+    for (mz, intensity) in &listed {
         match ten_thousandths(*mz) {
             // Writing to a string does not fail.
             Some(mass) => _ = write!(text, "{mass}"),

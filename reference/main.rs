@@ -146,6 +146,7 @@ fn answer(line: &[u8], out: &mut Answers) -> Option<()> {
         b"find_places" => places::find_places,
         b"find_data" => places::find_data,
         b"ten_thousandths" => ten_thousandths,
+        b"listed" => listing::listed,
         b"counted_list" => counted_list,
         _ => return None,
     };
@@ -352,11 +353,7 @@ fn format(fields: &mut Fields, out: &mut Answers) -> Option<()> {
 }
 
 fn display_name(fields: &mut Fields, out: &mut Answers) -> Option<()> {
-    let format = match fields.number(2)? {
-        0 => ScanDataFormat::PacketHeader,
-        1 => ScanDataFormat::FlatV63,
-        _ => ScanDataFormat::FlatV66,
-    };
+    let format = fields.format()?;
     let lent = fields.lent_text()?;
     fields.end()?;
     out.name(Some(format.display_name()), lent);

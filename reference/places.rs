@@ -206,11 +206,7 @@ fn put_peaks<'a>(out: &'a mut Answers, row: (u64, u64), stride: u32, wide: bool)
 }
 
 pub fn find_data(fields: &mut Fields, out: &mut Answers) -> Option<()> {
-    let format = match fields.number(2)? {
-        0 => ScanDataFormat::PacketHeader,
-        1 => ScanDataFormat::FlatV63,
-        _ => ScanDataFormat::FlatV66,
-    };
+    let format = fields.format()?;
     let data = fields.u64()?;
     let offset = fields.u64()?;
     let size = fields.u32()?;

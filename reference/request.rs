@@ -1,5 +1,7 @@
 //! The fields of a request line. Whatever is malformed is `None`.
 
+use crate::scan_format::ScanDataFormat;
+
 /// The most elements of text that are lent.
 const MOST_TEXT: u64 = 64;
 
@@ -74,6 +76,14 @@ impl<'a> Fields<'a> {
 
     pub fn flag(&mut self) -> Option<bool> {
         self.number(1).map(|n| n == 1)
+    }
+
+    pub fn format(&mut self) -> Option<ScanDataFormat> {
+        self.number(2).map(|n| match n {
+            0 => ScanDataFormat::PacketHeader,
+            1 => ScanDataFormat::FlatV63,
+            _ => ScanDataFormat::FlatV66,
+        })
     }
 
     /// How many bytes of text are lent.

@@ -107,6 +107,10 @@ impl<'a> Tray<'a> {
         })
     }
 
+    pub fn format(&self) -> ScanDataFormat {
+        ScanDataFormat::detect(self.version, self.flat)
+    }
+
     /// Scan k. Its event is the one at a place, if one is given, else the k-th from the events' offset on.
     pub fn scan(&self, k: u32, event_at: Option<u64>) -> Result<Scan, Refusal> {
         if k >= self.scans {
@@ -163,7 +167,7 @@ impl<'a> Tray<'a> {
 
     fn pairs(&self, entry: &ScanIndexEntry, event: &ScanEvent) -> error::Result<Vec<(f64, f64)>> {
         let source = &mut Cursor::new(self.run);
-        match ScanDataFormat::detect(self.version, self.flat) {
+        match self.format() {
             ScanDataFormat::PacketHeader => {
                 let place = self.data.saturating_add(entry.offset);
                 let packet = ScanDataPacket::read(&mut reader_at(self.run, place))?;

@@ -1,8 +1,10 @@
-// Answers the requests on scan formats, entries of the scan index and the data of a scan: the crates `scan_format`,
-// `scan_index` and `tray_data`.
+// Answers the requests on scan formats, entries of the scan index, the data of a scan and which pairs of it are listed: the
+// crates `scan_format`, `scan_index`, `tray_data` and `listing_pairs`.
 ghost use Prim.Native.Nat.{_≤_};
+ghost use mathlib.Core.Path.{_≡_};
 ghost use lib.ListN.{length};
 ghost use Rattle.probe_text.specs.Held.{held};
+use listing_pairs::keep_listed;
 use packet_profile::Profile;
 use probe_text::Answered;
 use probe_text::answer;
@@ -168,6 +170,53 @@ fn find_data(rest: &[u8], data: &mut [u8], out: &mut [u8], n: usize) -> usize
     }
 }
 
+// The floats of these bits.
+fn floats(bits: &[u64; 64]) -> [f64; 64]
+    ensures { λ r. ⌜ 64 ≡ length r ⌝ }
+{
+    let mut out = [0.0f64; 64];
+    let mut i: usize = 0;
+    while i < 64 {
+        out[i] = float_bits::f64_of_bits(bits[i]);
+        i = i + 1;
+    }
+    out
+}
+
+// How many pairs of two slices are listed, and the slices.
+fn put_listed(
+    format: ScanDataFormat,
+    masses: &mut [f64],
+    intensities: &mut [f64],
+    out: &mut [u8],
+    n: usize,
+) -> usize
+    ensures { λ r. ⌜ r ≤ length (now (out .exit)) ⌝ }
+{
+    let kept = keep_listed(format, masses, intensities);
+    let n = answer::ok_number(out, n, kept as u64);
+    let n = answer::slice_f64(out, n, masses);
+    answer::slice_f64(out, n, intensities)
+}
+
+fn listed(rest: &[u8], data: &mut [u8], out: &mut [u8], n: usize) -> usize
+    ensures { λ r. ⌜ r ≤ length (now (out .exit)) ⌝ }
+{
+    let format = request::number(rest, 0, 2);
+    let mut bits = [0u64; 64];
+    let m = request::u64s(rest, format.end, data, &mut bits);
+    let mut masses = floats(&bits);
+    let i = request::u64s(rest, m.end, data, &mut bits);
+    let mut intensities = floats(&bits);
+    if i.end != rest.len() {
+        return answer::bad(out, n);
+    }
+    let format = format_of(format.value);
+    let m = m.value as usize;
+    let i = i.value as usize;
+    put_listed(format, &mut masses[0..m], &mut intensities[0..i], out, n)
+}
+
 // The request words that are answered here.
 enum Keyword {
     Entry,
@@ -175,6 +224,7 @@ enum Keyword {
     Format,
     DisplayName,
     FindData,
+    Listed,
     Unknown,
 }
 
@@ -194,6 +244,9 @@ fn keyword_of(word: &[u8]) -> Keyword {
     if check::same(word, b"find_data") {
         return Keyword::FindData;
     }
+    if check::same(word, b"listed") {
+        return Keyword::Listed;
+    }
     Keyword::Unknown
 }
 
@@ -207,6 +260,7 @@ pub fn answer(word: &[u8], rest: &[u8], data: &mut [u8], out: &mut [u8], n: usiz
         Keyword::Format => Answered::Text(format(rest, out, n)),
         Keyword::DisplayName => Answered::Text(display_name(rest, out, n)),
         Keyword::FindData => Answered::Text(find_data(rest, data, out, n)),
+        Keyword::Listed => Answered::Text(listed(rest, data, out, n)),
         Keyword::Unknown => Answered::Unknown,
     }
 }
