@@ -1,4 +1,4 @@
--- Document 01's worked case, from the tray's bytes to the listing's: antt computes it.
+-- Document 01's worked case, and one of L1, from a tray's bytes to the listing's: antt computes them.
 use mathlib.Core.Path.{_≡_, refl}
 use Prim.Native.Nat.{ℕ}
 use mathlib.Core.List.{List, [], _∷_, _++_}
@@ -41,19 +41,18 @@ run =
     9 ∷ (replicate 19 0 ++ 2 ∷ (replicate 51 0 ++ (replicate 77 0
     ++ (0x00 ∷ 0x04 ∷ 0xfa ∷ 0x43 ∷ 0x00 ∷ 0x00 ∷ 0x00 ∷ 0x40 ∷ 0 ∷ []))))
 
-pub worked-case : listing (words ++ run)
-    ≡ ascii "T 8 1" ++ 10 ∷ (ascii "S 0 1 0" ++ 10 ∷ (ascii "5000313 4000000000000000" ++ 10 ∷ []))
-unfolding ofBits toBits ofInt round eq ne lt le each over parse repeat outcome sizeForVersion formatOf layout describe reaction before66 eventLayout event counted peaksFrom attempt attempts flatPeaks peak peakPairs scaled tenThousandths largestMass digit decimalBy decimal hexadecimal trayLine scanLines header judged readHeader scanData pairs entryIn scanParts listsAndPairsIfFit scanIfFits headerWith readScan scansText listing
-worked-case = refl
-
--- L1, on the same tray with three peaks: the first has m/z -0, the last m/z 0 and an intensity
+-- L1, on the same tray with five peaks: m/z -0 and 0, the latter with an intensity, are not listed; the smallest f32 above 0 is, and a NaN
 abbrev channels : List ℕ
 channels =
-    27 ∷ (replicate 19 0 ++ 4 ∷ (replicate 51 0 ++ (replicate 77 0
+    45 ∷ (replicate 19 0 ++ 6 ∷ (replicate 51 0 ++ (replicate 77 0
     ++ (0x00 ∷ 0x00 ∷ 0x00 ∷ 0x80 ∷ 0x00 ∷ 0x00 ∷ 0x00 ∷ 0x00
     ∷ 0x00 ∷ 0x04 ∷ 0xfa ∷ 0x43 ∷ 0x00 ∷ 0x00 ∷ 0x00 ∷ 0x40
-    ∷ 0x00 ∷ 0x00 ∷ 0x00 ∷ 0x00 ∷ 0x00 ∷ 0x00 ∷ 0x00 ∷ 0x40 ∷ 0 ∷ 0 ∷ 0 ∷ []))))
+    ∷ 0x00 ∷ 0x00 ∷ 0x00 ∷ 0x00 ∷ 0x00 ∷ 0x00 ∷ 0x00 ∷ 0x40
+    ∷ 0x01 ∷ 0x00 ∷ 0x00 ∷ 0x00 ∷ 0x00 ∷ 0x00 ∷ 0x00 ∷ 0x40
+    ∷ 0x00 ∷ 0x00 ∷ 0xc0 ∷ 0x7f ∷ 0x00 ∷ 0x00 ∷ 0x00 ∷ 0x00 ∷ replicate 5 0))))
 
-pub empty-channels : listing (words ++ channels) ≡ listing (words ++ run)
+pub worked-cases :
+    (listing (words ++ run) ≡ ascii "T 8 1\nS 0 1 0\n5000313 4000000000000000\n")
+    × (listing (words ++ channels) ≡ ascii "T 8 1\nS 0 3 0\n5000313 4000000000000000\n0 4000000000000000\n- 0000000000000000\n")
 unfolding ofBits toBits ofInt round eq ne lt le each over parse repeat outcome sizeForVersion formatOf layout describe reaction before66 eventLayout event counted peaksFrom attempt attempts flatPeaks peak peakPairs scaled tenThousandths largestMass digit decimalBy decimal hexadecimal trayLine scanLines header judged readHeader scanData pairs entryIn scanParts listsAndPairsIfFit scanIfFits headerWith readScan scansText listing
-empty-channels = refl
+worked-cases = (refl, refl)
