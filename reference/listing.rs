@@ -78,7 +78,11 @@ pub fn listed(fields: &mut Fields, out: &mut Answers) -> Option<()> {
     let mut masses = fields.f64s()?;
     let mut intensities = fields.f64s()?;
     fields.end()?;
-    let mut pairs: Vec<_> = masses.iter().copied().zip(intensities.iter().copied()).collect();
+    let mut pairs: Vec<_> = masses
+        .iter()
+        .copied()
+        .zip(intensities.iter().copied())
+        .collect();
     pairs.retain(|(mz, _)| is_listed(format, *mz));
     for (at, (mz, intensity)) in pairs.iter().enumerate() {
         masses[at] = *mz;
