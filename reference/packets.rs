@@ -251,9 +251,18 @@ pub fn narrow(fields: &mut Fields, out: &mut Answers) -> Option<()> {
     Some(())
 }
 
+/// Whether all bits of the exponent are set, and a bit below them.
+fn is_nan(mz: f64) -> bool {
+    let bits = mz.to_bits();
+    bits >> 52 & 0x7ff == 0x7ff && bits << 12 != 0
+}
+
 /// The bits of noise and baseline at an m/z. Outside the nodes they are a node's own, which keep their bits; between two
-/// nodes they are made.
+/// nodes they are made. The original is not asked at a NaN, where document 02 has none (L2) and it has the last node's.
 fn noise_bits(packet: &ScanDataPacket, mz: f64) -> Option<(u32, u32)> {
+    if is_nan(mz) {
+        return None;
+    }
     let (noise, baseline) = packet.noise_at(mz)?;
     let reaches = |node: &NoiseNode| mz as f32 <= node.mz;
     let nodes = &packet.noise_nodes;
@@ -349,7 +358,7 @@ pub fn packet_labels(fields: &mut Fields, out: &mut Answers) -> Option<()> {
     Some(())
 }
 
-/// The original has no labels for a peak list: they are what it answers at each mass.
+/// The original has no labels for a peak list: they are the noise at each mass.
 pub fn labels(fields: &mut Fields, out: &mut Answers) -> Option<()> {
     let masses = fields.f64s()?;
     let mut labels = LabelSlices::lent(fields)?;

@@ -4,7 +4,7 @@ use mathlib.Core.Bool.{true, false}
 use mathlib.Core.List.{List, [], _∷_}
 use Prim.Native.Nat.{ℕ}
 use lib.IntN.{pos, negsuc}
-use lib.Ieee.{Float, nan, fin, binary32, binary64, round, ofInt, ofBits, toBits, add, sub, mul, div, eq, lt, le}
+use lib.Ieee.{Float, nan, fin, binary32, binary64, round, ofInt, isNan, ofBits, toBits, add, sub, mul, div, eq, lt, le}
 use Rattle.refusal.specs.Outcome.{ok}
 use Rattle.event_preamble.specs.Size.{sizeForVersion}
 use Rattle.event_window.specs.Window.{lowest, windowOf}
@@ -13,7 +13,7 @@ use Rattle.calibration.specs.Convert.{freqToMz}
 use Rattle.float_narrow.specs.Narrow.{narrow}
 use Rattle.noise.specs.Line.{noiseAt, noiseOf, past, between, fraction}
 use Rattle.noise.specs.Nodes.{NodeBits}
-use Rattle.noise.specs.declared.NoiseAnswer.the-variants.{Values}
+use Rattle.noise.specs.declared.NoiseAnswer.the-variants.{None, Values}
 use Rattle.float_ten_thousandths.specs.TenThousandths.{scaled, tenThousandths}
 use Rattle.float_bits.specs.Numbers.{largestMass}
 
@@ -48,7 +48,7 @@ node mz noise baseline = record { mz = bits32 mz; noise = bits32 noise; baseline
 abbrev nodes : List NodeBits
 nodes = node 100 1 3 ∷ node 200 2 5 ∷ []
 
--- a and b are coefficients that don't count, and cs are any at all
+-- a and b are coefficients that don't count, and cs are any at all. L2: noise at NaN is none
 pub table : (a b : ℕ) (cs : List ℕ)
     → (sizeForVersion 8 ≡ 41)
     × (sizeForVersion 9 ≡ 136)
@@ -61,7 +61,7 @@ pub table : (a b : ℕ) (cs : List ℕ)
     × (freqToMz minusZero cs ≡ whole 0)
     × (noiseAt (whole 50) nodes ≡ Values (bits32 1) (bits32 3))
     × (noiseAt (whole 150) nodes ≡ Values (toBits binary32 threeHalves) (bits32 4))
-    × (noiseAt nan nodes ≡ Values (bits32 2) (bits32 5))
+    × (noiseAt nan nodes ≡ None)
     × (tenThousandths mass ≡ ok 5000313)
-unfolding ofInt round ofBits toBits add sub mul div eq lt le sizeForVersion lowest largestMass freqToMz narrow noiseOf past between fraction scaled tenThousandths
+unfolding ofInt round isNan ofBits toBits add sub mul div eq lt le sizeForVersion lowest largestMass freqToMz narrow noiseOf past between fraction scaled tenThousandths
 table a b cs = (refl, refl, refl, refl, refl, refl, refl, refl, refl, refl, refl, refl, refl)
