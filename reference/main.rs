@@ -24,6 +24,7 @@ mod records;
 mod request;
 mod searches;
 mod tray;
+mod writing;
 
 // Files that reader.rs names but that are not at hand.
 mod error_log {
@@ -148,6 +149,10 @@ fn answer(line: &[u8], out: &mut Answers) -> Option<()> {
         b"ten_thousandths" => ten_thousandths,
         b"listed" => listing::listed,
         b"counted_list" => counted_list,
+        b"write_entry" => writing::write_entry,
+        b"rewrite_entry" => writing::rewrite_entry,
+        b"write_event" => writing::write_event,
+        b"rewrite_event" => writing::rewrite_event,
         _ => return None,
     };
     request(&mut fields, out)

@@ -8,6 +8,9 @@ const MOST_TEXT: u64 = 64;
 /// The most bytes of a preamble that are lent.
 const MOST_PREAMBLE: u64 = 256;
 
+/// The most bytes that are lent for a record to be written.
+const MOST_BYTES: u64 = 1024;
+
 /// The most elements of any other slice that are lent, and the most that a list of a request has.
 const MOST_ELEMENTS: u64 = 64;
 
@@ -74,6 +77,15 @@ impl<'a> Fields<'a> {
         self.number(u64::MAX)
     }
 
+    /// Numbers that are not above these.
+    pub fn numbers<const N: usize>(&mut self, most: [u64; N]) -> Option<[u64; N]> {
+        let mut numbers = [0; N];
+        for (number, most) in numbers.iter_mut().zip(most) {
+            *number = self.number(most)?;
+        }
+        Some(numbers)
+    }
+
     pub fn flag(&mut self) -> Option<bool> {
         self.number(1).map(|n| n == 1)
     }
@@ -96,6 +108,11 @@ impl<'a> Fields<'a> {
         self.number(MOST_PREAMBLE).map(|n| n as usize)
     }
 
+    /// How many bytes are lent for a record to be written.
+    pub fn lent_bytes(&mut self) -> Option<usize> {
+        self.number(MOST_BYTES).map(|n| n as usize)
+    }
+
     /// How many elements of another slice are lent.
     pub fn lent_elements(&mut self) -> Option<usize> {
         self.number(MOST_ELEMENTS).map(|n| n as usize)
@@ -116,6 +133,12 @@ impl<'a> Fields<'a> {
             .collect()
     }
 
+    /// Bytes of a preamble, not more than are lent of one.
+    pub fn preamble(&mut self) -> Option<Vec<u8>> {
+        self.bytes()
+            .filter(|bytes| bytes.len() <= MOST_PREAMBLE as usize)
+    }
+
     /// A list of numbers as their bytes.
     fn elements<const N: usize>(&mut self) -> Option<Vec<[u8; N]>> {
         let bytes = self.bytes()?;
@@ -131,6 +154,11 @@ impl<'a> Fields<'a> {
     pub fn f64s(&mut self) -> Option<Vec<f64>> {
         let elements = self.elements()?;
         Some(elements.into_iter().map(f64::from_le_bytes).collect())
+    }
+
+    pub fn u64s(&mut self) -> Option<Vec<u64>> {
+        let elements = self.elements()?;
+        Some(elements.into_iter().map(u64::from_le_bytes).collect())
     }
 
     pub fn u16s(&mut self) -> Option<Vec<u16>> {

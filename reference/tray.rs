@@ -52,7 +52,7 @@ impl Refusal {
     }
 }
 
-trait InPart<T> {
+pub trait InPart<T> {
     fn in_part(self, part: Part) -> Result<T, Refusal>;
 }
 

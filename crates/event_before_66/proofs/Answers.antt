@@ -13,6 +13,7 @@ use Rattle.parser.specs.Parser.{done, short, parsed, within, parse, bytes, litt
 use Rattle.parser.specs.Call.{outcome}
 use Rattle.parser.proofs.Prefix.{within-parsed, parse-assoc, bytes-in}
 use Rattle.parser.proofs.Fixed.{parse-stage}
+use Rattle.layout.specs.Layout.{reads}
 use Rattle.event_preamble.specs.Size.{sizeForVersion}
 use Rattle.event_reactions.specs.Reactions.{inSource}
 use Rattle.event_record.specs.Event.{Event}
@@ -20,7 +21,7 @@ use Rattle.event_record.specs.Places.{eventIn, eventAt, placesOf, findBy, outco
 use Rattle.event_record.specs.declared.Lists.{Lists}
 use Rattle.event_record.specs.declared.PlacesAnswer.the-variants.{At}
 use Rattle.event_record.proofs.Holding.{Holds, there}
-use Rattle.event_before_66.specs.Layout.{reaction, listsBefore66, before66}
+use Rattle.event_before_66.specs.Layout.{reaction, listsBefore66, layoutBefore66, before66}
 use Rattle.event_before_66.proofs.Stages.{head, Middle, beyond, middle, last, tail, described, more, rest, head-sized, middle-sized, tail-sized, middleAt, head-value, middle-value, tail-value}
 
 pair : {A B : Type 0} {a c : A} {b d : B} → a ≡ c → b ≡ d → _≡_ {A = A × B} (a, b) (c, d)
@@ -28,7 +29,7 @@ pair p q = rw (p, q)
 
 module _ (s : List ℕ) where
   staged : (version at : ℕ) → parse (before66 version) s at ≡ parse (head version >>= rest) s at
-  unfolding before66 head rest more beyond last
+  unfolding layoutBefore66 head rest more beyond last counted
   staged version at = refl
 
   parse-head : (version at : ℕ) → let size = sizeForVersion version in
@@ -39,7 +40,7 @@ module _ (s : List ℕ) where
       → parse (rest (preamble, n)) s (body + 4) ≡ within (leb (n * 32 + 24) (remaining s (body + 4))) (parse (more preamble n (middleAt s n body)) s (body + 4 + (n * 32 + 24)))
   unfolding rest middle
   parse-middle preamble n body =
-      parse-assoc (repeat n reaction) beyond (more preamble n) s (body + 4)
+      parse-assoc (repeat n (reads reaction)) beyond (more preamble n) s (body + 4)
       ∙ parse-stage (n * 32 + 24) (middle n) (more preamble n) (middle-sized n) s (body + 4)
       ∙ rw (middle-value s n body)
 

@@ -16,7 +16,7 @@ use Rattle.event_record.specs.Places.{eventIn, withLists, placesOf, outcomeOfPl
 use Rattle.event_record.specs.declared.Lists.{Lists}
 use Rattle.event_record.specs.declared.Places.{Places}
 use Rattle.event_record.specs.declared.PlacesAnswer.the-variants.{At}
-use Rattle.event_record.specs.declared.ScanEvent.{ScanEvent}
+use Rattle.event_record.specs.declared.EventAndNext.{EventAndNext}
 use Rattle.event_record.proofs.Holding.{there}
 use Rattle.event_record.proofs.Bodies.{no-preamble, no-body, both-there, again}
 use Rattle.event_writer.proofs.Reading.{thenIfFits}
@@ -27,7 +27,7 @@ module _ (size : ℕ) (s : List ℕ) (at : ℕ) where
   abbrev finds : List ℕ × List ℕ → ℕ → Outcome Places
   finds v next = onOk (λ lists. placesOf at (withLists (v .0) (v .1) lists) next) (judgeBody (at + 136) (v .0) (v .1))
 
-  abbrev reads : List ℕ → List ℕ × List ℕ → ℕ → Outcome (ScanEvent × List (List ℕ))
+  abbrev reads : List ℕ → List ℕ × List ℕ → ℕ → Outcome (EventAndNext × List (List ℕ))
   reads capacities v next = andThen (judgeBody (at + 136) (v .0) (v .1)) (λ lists. eventIfFits capacities (eventIn (v .0) (v .1) lists) next)
 
   pub short-preamble : remaining s at < 136 → ranOut 3 ≡ findCounted size at s

@@ -15,7 +15,7 @@ use Rattle.refusal.specs.Outcome.{Outcome, ok, refused, andThen}
 use Rattle.event_record.specs.Event.{eventIfFits, outcomeOf}
 use Rattle.event_record.specs.Places.{eventIn, preambleAndBody}
 use Rattle.event_record.specs.declared.Lists.{Lists}
-use Rattle.event_record.specs.declared.ScanEvent.{ScanEvent}
+use Rattle.event_record.specs.declared.EventAndNext.{EventAndNext}
 use Rattle.event_record.proofs.Bodies.{body-demand}
 use Rattle.event_record.proofs.LongerBytes.{event-not-truncated, reader-longer}
 use Rattle.event_counted.specs.Layout.{judgeRecords, keptCount, listsCounted, judgeBody, readCounted}
@@ -27,7 +27,7 @@ one size = preambleAndBody (λ _. size)
 counted-bounded : (size : ℕ) → size < 2 ^ 32 → Bounded (2 ^ 62) (2 ^ 61) (one size)
 counted-bounded size h = bounded-more (2 ^ 62) (2 ^ 39) (2 ^ 61) (one size) (lit≤ tt) (body-demand (λ _. size) (λ _. omega arith) .bounded)
 
-abbrev answered : List ℕ → ℕ → List ℕ × List ℕ → ℕ → Outcome (ScanEvent × List (List ℕ))
+abbrev answered : List ℕ → ℕ → List ℕ × List ℕ → ℕ → Outcome (EventAndNext × List (List ℕ))
 answered capacities at v next = andThen (judgeBody (at + 136) (v .0) (v .1)) (λ lists. eventIfFits capacities (eventIn (v .0) (v .1) lists) next)
 
 pub counted-prefix : (size : ℕ) (capacities : List ℕ) (at : ℕ) → PrefixProperty (readCounted size capacities at)

@@ -14,7 +14,7 @@ use Rattle.event_reactions.specs.declared.Source.the-variants.{Every}
 use Rattle.event_record.specs.Event.{eventIfFits}
 use Rattle.event_record.specs.Places.{eventIn, preambleAndBody}
 use Rattle.event_record.specs.declared.Lists.{Lists}
-use Rattle.event_record.specs.declared.ScanEvent.{ScanEvent}
+use Rattle.event_record.specs.declared.EventAndNext.{EventAndNext}
 
 -- where record i of 56 bytes stands in the body: its precursor at 0, its energy at 16
 abbrev pub recordAt : ℕ → ℕ
@@ -54,7 +54,7 @@ judgeBody start preamble body =
     (andThen (judgeRecords start body (keptCount preamble count)) (λ _. ok (listsCounted preamble body count)))
 
 -- what `read_counted_v66` answers
-unfoldable pub readCounted : ℕ → List ℕ → ℕ → List ℕ → Outcome (ScanEvent × List (List ℕ))
+unfoldable pub readCounted : ℕ → List ℕ → ℕ → List ℕ → Outcome (EventAndNext × List (List ℕ))
 readCounted size capacities at run =
     outcome (single 3 at (preambleAndBody (λ _. size)) (λ v next.
     andThen (judgeBody (at + 136) (v .0) (v .1)) (λ lists. eventIfFits capacities (eventIn (v .0) (v .1) lists) next))) run

@@ -10,6 +10,7 @@ use Rattle.event_reactions.specs.Reactions.{Reaction}
 use Rattle.event_preamble.specs.Settings.{settings}
 use Rattle.event_record.specs.Activation.{eventActivation}
 use Rattle.event_record.specs.declared.ScanEvent.{ScanEvent}
+use Rattle.event_record.specs.declared.EventAndNext.{EventAndNext}
 use Rattle.event_record.specs.declared.EventAnswer.{EventAnswer}
 use Rattle.event_record.specs.declared.EventAnswer.the-variants as answer
 
@@ -20,9 +21,9 @@ pub record Event : Type 0 where
   pub window : FoundWindow
   pub coefficients : List ℕ
 
--- the answer's record
-unfoldable pub describe : Event → ℕ → ScanEvent
-describe e next =
+-- its record
+unfoldable pub describe : Event → ScanEvent
+describe e =
     record {
       «preamble_len» = length (e .preamble);
       reactions = length (e .reactions);
@@ -32,16 +33,19 @@ describe e next =
       «high_mz» = e .window .high;
       preamble = settings (e .preamble);
       activation = eventActivation (e .preamble) (firsts (e .reactions));
-      next = next;
     }
+
+-- the answer: the record, and the place after the event
+abbrev pub answerOf : Event → ℕ → EventAndNext
+answerOf e next = record { event = describe e; next = next }
 
 -- what the lent slices take: the preamble, the precursors, the energies and the coefficients
 abbrev pub eventLists : Event → List (List ℕ)
 eventLists e = e .preamble ∷ firsts (e .reactions) ∷ seconds (e .reactions) ∷ e .coefficients ∷ []
 
-unfoldable pub eventIfFits : List ℕ → Event → ℕ → Outcome (ScanEvent × List (List ℕ))
-eventIfFits capacities e next = listsIfFit capacities (describe e next) (eventLists e)
+unfoldable pub eventIfFits : List ℕ → Event → ℕ → Outcome (EventAndNext × List (List ℕ))
+eventIfFits capacities e next = listsIfFit capacities (answerOf e next) (eventLists e)
 
-abbrev pub outcomeOf : EventAnswer → Outcome ScanEvent
+abbrev pub outcomeOf : EventAnswer → Outcome EventAndNext
 outcomeOf (answer.Event e) = ok e
 outcomeOf (answer.Refused r) = outcomeOfRefusal r

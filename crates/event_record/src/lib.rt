@@ -14,7 +14,7 @@ use reader::u8_at;
 use refusal::Refusal;
 
 pub struct ScanEvent {
-    // How much of each lent slice was written; reactions counts precursors and energies alike.
+    // How many elements of each slice are the event's; reactions counts precursors and energies alike.
     pub preamble_len: u64,
     pub reactions: u64,
     pub coefficients: u64,
@@ -24,12 +24,16 @@ pub struct ScanEvent {
     pub high_mz: u64,
     pub preamble: ScanEventPreamble,
     pub activation: Activation,
-    // The place after the event.
+}
+
+// An event, and the place after it, which is no field of the event.
+pub struct EventAndNext {
+    pub event: ScanEvent,
     pub next: u64,
 }
 
 pub enum EventAnswer {
-    Event(ScanEvent),
+    Event(EventAndNext),
     Refused(Refusal),
 }
 

@@ -91,8 +91,7 @@ module _ (preamble body : List ℕ) (j : Lists) (p q e c : List ℕ) where
             «high_mz» = j .window .high;
             preamble = settings preamble;
             activation = eventActivation preamble (take (n - 0) (drop 0 q′));
-            next = next;
           }
-          → LeftLists (λ c. eventIfFits c event next) lent (ok r) (p′ ∷ q′ ∷ e′ ∷ c′ ∷ [])
+          → LeftLists (λ c. eventIfFits c event next) lent (ok (record { event = r; next = next })) (p′ ∷ q′ ∷ e′ ∷ c′ ∷ [])
       unfolding eventIfFits describe eventIn
-      event-written r d = lists-written _ _ _ (room-is ∙ h) (d ∙ rw (front, count, length-each)) w
+      event-written r d = lists-written _ _ _ (room-is ∙ h) (rw (d, front, count, length-each)) w

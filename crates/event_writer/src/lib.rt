@@ -11,6 +11,7 @@ ghost use Rattle.event_record.specs.Places.{eventIn, eventAt};
 use event_preamble::decode;
 use event_reactions::count_reactions;
 use event_reactions::write_reactions;
+use event_record::EventAndNext;
 use event_record::EventAnswer;
 use event_record::Lists;
 use event_record::Places;
@@ -80,7 +81,7 @@ fn write_if_fits(
     ) {
         write_lists(bytes, body, j, preamble, precursors, energies, coefficients);
         let end = count as usize;
-        return EventAnswer::Event(ScanEvent {
+        let event = ScanEvent {
             preamble_len: len,
             reactions: count,
             coefficients: j.coefficients,
@@ -89,8 +90,8 @@ fn write_if_fits(
             high_mz: found.high,
             preamble: decode(bytes),
             activation: activation(bytes, &precursors[0..end]),
-            next,
-        });
+        };
+        return EventAnswer::Event(EventAndNext { event, next });
     }
     EventAnswer::Refused(Refusal::NoRoom)
 }

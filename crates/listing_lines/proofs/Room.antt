@@ -14,7 +14,7 @@ use Rattle.refusal.specs.Outcome.{ok, refused}
 use Rattle.refusal.specs.Number.{number as numberOf, carried}
 use Rattle.refusal.specs.declared.Part.the-variants.{Header, Index, Event, Data}
 use Rattle.refusal.specs.declared.Refusal.{Refusal}
-use Rattle.refusal.specs.declared.Refusal.the-variants.{Short, UnrecognizedScanRecord, InvalidPrecursorMz, BodyTooShort, FlatWord, TooManyScans, NoSuchScan, NoRoom, MassOutOfRange}
+use Rattle.refusal.specs.declared.Refusal.the-variants.{Short, UnrecognizedScanRecord, InvalidPrecursorMz, BodyTooShort, FlatWord, TooManyScans, NoSuchScan, NoRoom, MassOutOfRange, NotHeld}
 use Rattle.float_ten_thousandths.specs.TenThousandths.{scaled, tenThousandths}
 use Rattle.float_bits.specs.Exact.{num, den}
 use Rattle.float_bits.specs.Rounding.{nearestHalfUp}
@@ -100,6 +100,7 @@ number-small TooManyScans = (lit< tt, lit< tt)
 number-small NoSuchScan = (lit< tt, lit< tt)
 number-small NoRoom = (lit< tt, lit< tt)
 number-small MassOutOfRange = (lit< tt, lit< tt)
+number-small NotHeld = (lit< tt, lit< tt)
 
 pub refusal-room : (number : ℕ) (refusal : Refusal) → number < 2 ^ 32 → length (refusalLine number refusal) ≤ 64
 unfolding refusalLine

@@ -29,7 +29,7 @@ allPairsText k (refused number carries) = refusedLine k number carries
 abbrev pub withoutZeros : WrittenScan → WrittenScan
 withoutZeros v =
     let ps = filter (λ (p : Pair). ne (p .0) zeroF) (v .2) in
-    (record { entry = v .0 .entry; event = v .0 .event; pairs = length ps }, v .1, ps)
+    (record { entry = v .0 .entry; event = v .0 .event; next = v .0 .next; pairs = length ps }, v .1, ps)
 
 all-of : (ps : List Pair) → filter (λ _. true) ps ≡ ps
 all-of [] = refl

@@ -13,7 +13,7 @@ use Rattle.event_preamble.specs.Size.{sizeForVersion}
 use Rattle.scan_format.specs.Format.{formatOf}
 use Rattle.scan_index.specs.Entry.{layout}
 use Rattle.event_record.specs.Event.{describe}
-use Rattle.event_before_66.specs.Layout.{reaction, before66}
+use Rattle.event_before_66.specs.Layout.{reaction, layoutBefore66}
 use Rattle.events.specs.Event.{layout as eventLayout, event}
 use Rattle.srm_flat_peaks.specs.Flat.{peaksFrom, attempt, attempts, flatPeaks}
 use Rattle.peaks.specs.Peaks.{peak}
@@ -54,5 +54,5 @@ channels =
 pub worked-cases :
     (listing (words ++ run) ≡ ascii "T 8 1\nS 0 1 0\n5000313 4000000000000000\n")
     × (listing (words ++ channels) ≡ ascii "T 8 1\nS 0 3 0\n5000313 4000000000000000\n0 4000000000000000\n- 0000000000000000\n")
-unfolding ofBits toBits ofInt round eq ne lt le each over parse repeat outcome sizeForVersion formatOf layout describe reaction before66 eventLayout event counted peaksFrom attempt attempts flatPeaks peak peakPairs scaled tenThousandths largestMass digit decimalBy decimal hexadecimal trayLine scanLines header judged readHeader scanData pairs entryIn scanParts listsAndPairsIfFit scanIfFits headerWith readScan scansText listing
+unfolding ofBits toBits ofInt round eq ne lt le each over parse repeat outcome sizeForVersion formatOf layout describe reaction layoutBefore66 eventLayout event counted peaksFrom attempt attempts flatPeaks peak peakPairs scaled tenThousandths largestMass digit decimalBy decimal hexadecimal trayLine scanLines header judged readHeader scanData pairs entryIn scanParts listsAndPairsIfFit scanIfFits headerWith readScan scansText listing
 worked-cases = (refl, refl)

@@ -12,7 +12,7 @@ use Rattle.refusal.specs.Number.{partNumber, number, carried, outcomeOfRefusal}
 use Rattle.refusal.specs.declared.Part.{Part}
 use Rattle.refusal.specs.declared.Part.the-variants.{Header, Index, Event, Data}
 use Rattle.refusal.specs.declared.Refusal.{Refusal}
-use Rattle.refusal.specs.declared.Refusal.the-variants.{Short, UnrecognizedScanRecord, InvalidPrecursorMz, BodyTooShort, FlatWord, TooManyScans, NoSuchScan, NoRoom, MassOutOfRange}
+use Rattle.refusal.specs.declared.Refusal.the-variants.{Short, UnrecognizedScanRecord, InvalidPrecursorMz, BodyTooShort, FlatWord, TooManyScans, NoSuchScan, NoRoom, MassOutOfRange, NotHeld}
 use Rattle.refusal.specs.declared.CountAnswer.{CountAnswer}
 use Rattle.refusal.proofs.Outcomes.{ok-not-refused}
 use Rattle.refusal.proofs.OneAnswer.{count-one}
@@ -51,6 +51,7 @@ short-is TooManyScans h e = absurd (omega arith)
 short-is NoSuchScan h e = absurd (omega arith)
 short-is NoRoom h e = absurd (omega arith)
 short-is MassOutOfRange h e = absurd (omega arith)
+short-is NotHeld h e = absurd (omega arith)
 
 -- `X k 1 part`
 abbrev pub ranOutLine : ℕ → Part → List ℕ

@@ -1,5 +1,5 @@
--- The elements of a list that pass a test, and the first of a list.
-use mathlib.Core.Bool.{Bool, cond}
+-- The elements of a list that pass a test, the first of a list, and whether all of several tests hold.
+use mathlib.Core.Bool.{Bool, true, _&&_, cond}
 use mathlib.Core.List.{List, [], _∷_}
 
 module _ {A : Type 0} where
@@ -12,3 +12,7 @@ module _ {A : Type 0} where
   abbrev pub firstOr : A → List A → A
   firstOr none [] = none
   firstOr none (x ∷ xs) = x
+
+abbrev pub all : List Bool → Bool
+all [] = true
+all (test ∷ others) = test && all others

@@ -36,6 +36,10 @@ pub record LeftList {A : Type 0} (vs xs : List A) (r : CountAnswer) (ys : List A
   pub answered : outcomeOfCount r ≡ ifFits (leb (length vs) (length xs)) (length vs)
   pub stands : ys ≡ fitting vs xs
 
+-- ---- a list, in one slice, by a call that goes by the slice's capacity and may be refused for other reasons than room
+abbrev pub LeftListBy : {A : Type 0} → (ℕ → Outcome (List A)) → List A → CountAnswer → List A → Type 0
+LeftListBy call xs r ys = Left length over (call (length xs)) xs (outcomeOfCount r) ys
+
 -- ---- several lists, each in a slice of its own
 module _ {E : Type 0} where
   -- the slices, with a list over the front of each

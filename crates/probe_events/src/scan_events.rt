@@ -80,7 +80,7 @@ fn put_lists(out: &mut [u8], n: usize, e: ScanEvent) -> usize
     answer::bits64(out, n, e.high_mz)
 }
 
-pub fn put_event(out: &mut [u8], n: usize, e: ScanEvent) -> usize
+pub fn put_event(out: &mut [u8], n: usize, e: ScanEvent, next: u64) -> usize
     ensures { λ r. ⌜ r ≤ length (now (out .exit)) ⌝ }
 {
     let settings = e.preamble;
@@ -88,16 +88,17 @@ pub fn put_event(out: &mut [u8], n: usize, e: ScanEvent) -> usize
     let n = put_lists(out, n, e);
     let n = preambles::put_settings(out, n, settings);
     let n = preambles::put_activation(out, n, activation);
-    answer::number(out, n, e.next)
+    answer::number(out, n, next)
 }
 
 fn put_answer(out: &mut [u8], n: usize, answer: EventAnswer) -> usize
     ensures { λ r. ⌜ r ≤ length (now (out .exit)) ⌝ }
 {
     match answer {
-        EventAnswer::Event(e) => {
+        EventAnswer::Event(read) => {
+            let event = read.event;
             let n = answer::ok(out, n);
-            put_event(out, n, e)
+            put_event(out, n, event, read.next)
         }
         EventAnswer::Refused(refusal) => answer::refused(out, n, refusal),
     }

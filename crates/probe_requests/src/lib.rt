@@ -81,6 +81,16 @@ fn of_srm(word: &[u8], rest: &[u8], data: &mut [u8], out: &mut [u8], n: usize) -
     let answered = probe_srm::answer(word, rest, data, out, n);
     match answered {
         Answered::Text(_) => answered,
-        Answered::Unknown => probe_pairs::answer(word, rest, data, out, n),
+        Answered::Unknown => of_pairs(word, rest, data, out, n),
+    }
+}
+
+fn of_pairs(word: &[u8], rest: &[u8], data: &mut [u8], out: &mut [u8], n: usize) -> Answered
+    ensures { λ r. ⌜ held r ≤ length (now (out .exit)) ⌝ }
+{
+    let answered = probe_pairs::answer(word, rest, data, out, n);
+    match answered {
+        Answered::Text(_) => answered,
+        Answered::Unknown => probe_writing::answer(word, rest, data, out, n),
     }
 }

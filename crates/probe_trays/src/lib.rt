@@ -36,7 +36,7 @@ fn put_scan(out: &mut [u8], n: usize, scan: Scan) -> usize
     let entry = scan.entry;
     let event = scan.event;
     let n = put_entry(out, n, entry);
-    let n = scan_events::put_event(out, n, event);
+    let n = scan_events::put_event(out, n, event, scan.next);
     answer::number(out, n, scan.pairs)
 }
 

@@ -8,7 +8,7 @@ use lib.Dec.{eqb}
 use Rattle.refusal.specs.declared.Part.{Part}
 use Rattle.refusal.specs.declared.Part.the-variants.{Header, Index, Event, Data}
 use Rattle.refusal.specs.declared.Refusal.{Refusal}
-use Rattle.refusal.specs.declared.Refusal.the-variants.{Short, UnrecognizedScanRecord, InvalidPrecursorMz, BodyTooShort, FlatWord, TooManyScans, NoSuchScan, NoRoom, MassOutOfRange}
+use Rattle.refusal.specs.declared.Refusal.the-variants.{Short, UnrecognizedScanRecord, InvalidPrecursorMz, BodyTooShort, FlatWord, TooManyScans, NoSuchScan, NoRoom, MassOutOfRange, NotHeld}
 use Rattle.refusal.specs.declared.CountAnswer.{CountAnswer}
 use Rattle.refusal.specs.declared.CountAnswer.the-variants as answer
 use Rattle.refusal.specs.Number.{partNumber, number, carried, outcomeOfRefusal, outcomeOfCount}
@@ -27,7 +27,8 @@ back n carries =
     (cond (eqb n 6) TooManyScans
     (cond (eqb n 7) NoSuchScan
     (cond (eqb n 8) NoRoom
-    MassOutOfRange)))))))
+    (cond (eqb n 9) MassOutOfRange
+    NotHeld))))))))
 
 part-back : (p : Part) → partBack (partNumber p) ≡ p
 unfolding partBack
@@ -47,6 +48,7 @@ number-back TooManyScans = refl
 number-back NoSuchScan = refl
 number-back NoRoom = refl
 number-back MassOutOfRange = refl
+number-back NotHeld = refl
 
 number-one : (a b : Refusal) → number a ≡ number b → carried a ≡ carried b → a ≡ b
 number-one a b p q =

@@ -8,7 +8,7 @@ use Rattle.refusal.specs.Outcome.{ok, refused, ranOut}
 use Rattle.parser.specs.Parser.{parse, repeat, counted}
 use Rattle.parser.specs.Call.{outcome}
 use Rattle.event_preamble.specs.Size.{sizeForVersion}
-use Rattle.event_before_66.specs.Layout.{reaction, before66}
+use Rattle.event_before_66.specs.Layout.{reaction, layoutBefore66}
 use Rattle.events.specs.Event.{layout as eventLayout, event, eventEnd, eventPlace}
 use Rattle.tray_header.specs.Header.{header, judged, readHeader}
 use Rattle.tray.specs.Scan.{headerWith, eventOf, nextEvent}
@@ -19,15 +19,15 @@ broken =
     ∷ 2 ∷ 0 ∷ 0 ∷ 0 ∷ 0 ∷ 0 ∷ 0 ∷ 0 ∷ 0 ∷ 0 ∷ 0 ∷ 0 ∷ 0 ∷ 0 ∷ 0 ∷ 0 ∷ []
 
 pub event-1-broken : eventOf 4096 6 1 broken ≡ ranOut 3
-unfolding eventOf headerWith eventPlace readHeader outcome parse header judged eventLayout event reaction before66 repeat counted sizeForVersion
+unfolding eventOf headerWith eventPlace readHeader outcome parse header judged eventLayout event reaction layoutBefore66 repeat counted sizeForVersion
 event-1-broken = refl
 
 pub event-1-longer : eventOf 4096 6 1 (broken ++ replicate 77 0) ≡ ok 77
-unfolding eventOf headerWith eventPlace readHeader outcome parse header judged eventLayout event reaction before66 repeat counted sizeForVersion
+unfolding eventOf headerWith eventPlace readHeader outcome parse header judged eventLayout event reaction layoutBefore66 repeat counted sizeForVersion
 event-1-longer = refl
 
 pub next-broken : nextEvent 4096 6 0 broken ≡ ranOut 3
-unfolding nextEvent eventEnd readHeader outcome parse header judged eventLayout event reaction before66 repeat counted sizeForVersion
+unfolding nextEvent eventEnd readHeader outcome parse header judged eventLayout event reaction layoutBefore66 repeat counted sizeForVersion
 next-broken = refl
 
 -- no such scan

@@ -55,7 +55,7 @@ WrittenScan = Scan × List (List ℕ) × List Pair
 unfoldable pub scanIfFits : List ℕ → ScanParts → Outcome WrittenScan
 scanIfFits capacities p =
     let ps = pairs (p .event .coefficients) (p .content) in
-    listsAndPairsIfFit capacities (record { entry = p .entry; event = describe (p .event) (p .next); pairs = length ps }) (eventLists (p .event)) ps
+    listsAndPairsIfFit capacities (record { entry = p .entry; event = describe (p .event); next = p .next; pairs = length ps }) (eventLists (p .event)) ps
 
 -- what `scan_at` answers, where event k stands at a place
 unfoldable pub scanAt : List ℕ → TrayHeader → ℕ → ℕ → List ℕ → Outcome WrittenScan

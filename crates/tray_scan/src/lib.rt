@@ -28,6 +28,8 @@ use tray_header::TrayHeader;
 pub struct Scan {
     pub entry: ScanIndexEntry,
     pub event: ScanEvent,
+    // The place after the event.
+    pub next: u64,
     // How many pairs were written.
     pub pairs: u64,
 }
@@ -126,12 +128,14 @@ fn write_scan(
     ) {
         return match write_event(run, places, preamble, precursors, energies, coefficients) {
             EventAnswer::Refused(r) => ScanAnswer::Refused(r),
-            EventAnswer::Event(event) => {
+            EventAnswer::Event(read) => {
+                let event = read.event;
                 let n = event.coefficients as usize;
                 data_pairs(run, data, &coefficients[..n], mz, intensity);
                 ScanAnswer::Scan(Scan {
                     entry,
                     event,
+                    next: read.next,
                     pairs,
                 })
             }

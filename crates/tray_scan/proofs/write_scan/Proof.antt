@@ -21,10 +21,10 @@ room t = rw (← t .before .before .holds .ensures, ← t .before .holds2 .ensur
 
 slice-reshare-prefix-data-pairs : tie.Need-slice-reshare-prefix-data-pairs
 slice-reshare-prefix-data-pairs c =
-    let w = c .before .before .before .before .before .before .before .before .before .before .before in
+    let w = c .before .before .before .before .before .before .before .before .before .before .before .before in
     let t = w .before .before .before .before .before in
     let start = t .before .before .before .before .before .before .before .before .before .before .before .before .before in
-    within (now (start .args .run)) (start .args .p) (start .pre) (t .before .before .before .pair-count .ensures) _ _ _ _ (now (start .args .mz)) (now (start .args .intensity)) (room t) (rw (ap outcomeOf (c .before .event .given .1)) at (w .write-event .ensures))
+    within (now (start .args .run)) (start .args .p) (start .pre) (t .before .before .before .pair-count .ensures) _ _ _ _ (now (start .args .mz)) (now (start .args .intensity)) (room t) (rw (ap outcomeOf (c .before .before .read .given .1)) at (w .write-event .ensures))
 
 slice-aggregate-data-pairs : tie.Need-slice-aggregate-data-pairs
 slice-aggregate-data-pairs c = sym (simp length-take (omega (arith, slice-reshare-prefix-data-pairs (c .before))))
@@ -38,10 +38,10 @@ returns c =
 
 returns-2 : tie.Need-returns-2
 returns-2 c =
-    let w = c .before .before .before .before .before .before .before .before .before .before .before .before .before .before .before .before .before .before .before in
+    let w = c .before .before .before .before .before .before .before .before .before .before .before .before .before .before .before .before .before .before .before .before in
     let t = w .before .before .before .before .before in
     let start = t .before .before .before .before .before .before .before .before .before .before .before .before .before in
-    all-written (now (start .args .run)) (start .args .p) (start .pre) (t .before .before .before .pair-count .ensures) _ _ _ _ _ _ (room t) (rw (ap outcomeOf (c .before .before .before .before .before .before .before .before .before .event .given .1)) at (w .write-event .ensures)) (c .before .before .before .before .data-pairs .ensures)
+    all-written (now (start .args .run)) (start .args .p) (start .pre) (t .before .before .before .pair-count .ensures) _ _ _ _ _ _ (room t) (rw (ap outcomeOf (c .before .before .before .before .before .before .before .before .before .before .read .given .1)) at (w .write-event .ensures)) (c .before .before .before .before .data-pairs .ensures)
 
 returns-3 : tie.Need-returns-3
 returns-3 c =

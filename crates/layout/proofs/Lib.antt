@@ -1,0 +1,4 @@
+pub mod Numbers
+pub mod Conditions
+pub mod ReadsBack
+pub mod WritesBack
