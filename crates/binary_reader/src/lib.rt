@@ -3,6 +3,8 @@
 // The functions over the reader are thin: each takes the struct apart and calls functions of the slice and the place. The prover
 // does not go through a struct that holds a slice by itself, so their proofs are written by hand, and the decoder's own functions
 // take the slice and the place.
+#![tactic(auto)]
+
 ghost use Rattle.std.specs.Prelude.{◌≡◌};
 ghost use Rattle.parser.specs.Parser.{bytes, parse, word, skip, check_count, word_at};
 ghost use Rattle.binary_reader.specs.Read.{width, outcome_of, outcome_of_there, reads, place_after, Moves};
@@ -10,7 +12,7 @@ ghost use Rattle.binary_reader.specs.Read.{width, outcome_of, outcome_of_there, 
 use reader::{remaining, u8_at, u16_at, u32_at, u64_at};
 
 // How many bytes a number has.
-#[derive(Drop)]
+#[derive(Clone, Copy)]
 pub enum Width {
     One,
     Two,
@@ -19,14 +21,14 @@ pub enum Width {
 }
 
 // A number, or refusal 1.
-#[derive(Drop)]
+#[derive(Clone, Copy)]
 pub enum WordAnswer {
     Value(u64),
     Short,
 }
 
 // The bytes are there, or refusal 1.
-#[derive(Drop)]
+#[derive(Clone, Copy)]
 pub enum BytesAnswer {
     There,
     Short,

@@ -1,5 +1,7 @@
 // Builds a run of one scan by the calls that write records, with a tray's header before it, and prints the tray:
 // `target/bin/build_run | target/bin/listing`. An example for who builds test runs; examples/trays/built-run.txt describes the tray.
+#![tactic(auto)]
+
 use event_bytes::write_before_66;
 use event_preamble::decode;
 use event_record::{ScanEvent, activation};

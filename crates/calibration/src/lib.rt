@@ -1,5 +1,7 @@
 // From a profile's bins to pairs of m/z and intensity (`freq_to_mz`, and the inner loop of `Profile::to_mz_intensity`, of
 // scan_data.rs).
+#![tactic(auto)]
+
 ghost use Rattle.std.specs.Prelude.{◌≡◌, ◌+◌, ◌*◌, ◌≤◌, length};
 ghost use Rattle.lists.specs.Left.{pairs_if_fit, LeftPairs};
 ghost use Rattle.lists.specs.Written.{each, over};
@@ -13,14 +15,14 @@ use reader::{saturating_add, u32_at};
 use refusal::{CountAnswer, Refusal};
 
 // Where a profile's bins lie: the frequency of bin 0 and the distance to the next, as the bits of f64 numbers.
-#[derive(Drop)]
+#[derive(Clone, Copy)]
 pub struct Bins {
     pub first_value: u64,
     pub step: u64,
 }
 
 // What the number of coefficients says, with A, B and C. It is worked out once for all bins of a chunk.
-#[derive(Drop)]
+#[derive(Clone, Copy)]
 enum Conversion {
     // What is stored is m/z already (ion trap).
     None,
@@ -32,7 +34,7 @@ enum Conversion {
 }
 
 // What else a chunk's bins have in common, as numbers.
-#[derive(Drop)]
+#[derive(Clone, Copy)]
 struct ChunkBins {
     first_value: f64,
     step: f64,

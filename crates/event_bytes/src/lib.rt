@@ -1,4 +1,6 @@
 // The bytes of a scan event below version 66, from its record and the slices of its lists (document 02, L3).
+#![tactic(auto)]
+
 ghost use Rattle.std.specs.Prelude.{◌≡◌, ◌&&◌, min, length};
 ghost use Rattle.std.proofs.lemmas.List.Edits.{sets};
 ghost use Rattle.lists.specs.Left.{LeftListBy};

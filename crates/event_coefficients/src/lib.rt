@@ -1,4 +1,6 @@
 // The calibration coefficients in the body of a scan event from version 66 on (`read_coefficients` of scan_event.rs).
+#![tactic(auto)]
+
 ghost use Rattle.std.specs.Prelude.{◌≡◌};
 ghost use Rattle.event_coefficients.specs.Coefficients.{word_offset, coefficient_count};
 

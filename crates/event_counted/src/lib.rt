@@ -1,4 +1,6 @@
 // Scan events of version 66 whose body starts with its reaction count (`read_counted_v66` of scan_event.rs).
+#![tactic(auto)]
+
 ghost use Rattle.std.specs.Prelude.{◌≡◌, ◌+◌, ◌^◌, ◌<◌, [], ◌∷◌};
 ghost use Rattle.lists.specs.Left.{LeftLists};
 ghost use Rattle.event_record.specs.Event.{outcome_of};
@@ -16,7 +18,7 @@ use reader::{remaining, u32_at, u64_at};
 use refusal::{Part, Refusal};
 
 // What was found of the reaction records.
-#[derive(Drop)]
+#[derive(Clone, Copy)]
 enum RecordsAnswer {
     Sound,
     Refused(Refusal),
@@ -89,7 +91,7 @@ fn lists_of(bytes: &[u8], body: &[u8], count: u64) -> Lists
 }
 
 // What a body holds that starts at `start` of the run.
-#[derive(Drop)]
+#[derive(Clone, Copy)]
 enum BodyAnswer {
     Holds(Lists),
     Refused(Refusal),

@@ -1,4 +1,6 @@
 // Scan events from version 66 on, whose body has a size that the caller gives (`read_v66` of scan_event.rs).
+#![tactic(auto)]
+
 ghost use Rattle.std.specs.Prelude.{◌≡◌, ◌&&◌, not, cond, ◌<◌, eqb};
 ghost use Rattle.event_reactions.specs.declared.Source.TheVariants.{Every, Sought};
 ghost use Rattle.event_record.specs.Places.{find_by, outcome_of_places};

@@ -1,5 +1,7 @@
 // The preamble of a scan event (`ScanEventPreamble` of scan_event.rs): its size, and what its bytes say. Any number of
 // bytes may be there: a code whose byte is missing is none, and any other missing byte counts as 0.
+#![tactic(auto)]
+
 ghost use Rattle.std.specs.Prelude.{◌≡◌};
 ghost use Rattle.event_preamble.specs.Size.{size_for_version};
 ghost use Rattle.event_preamble.specs.Settings.{byte, code_at, is_set, is_dependent, is_dia, is_wideband, named as is_named, activation_at, settings, is_primary};
@@ -22,7 +24,7 @@ pub fn size_for_version(version: u32) -> u64
     }
 }
 
-#[derive(Drop)]
+#[derive(Clone, Copy)]
 pub struct ScanEventPreamble {
     pub polarity: Code,
     pub scan_mode: Code,

@@ -1,5 +1,7 @@
 // The precursor reactions in the body of a scan event. From version 66 on (`read_v66` of scan_event.rs) they are looked for: a
 // count word and records of 32 bytes, or, where these give none, a record that has no count word.
+#![tactic(auto)]
+
 ghost use Rattle.std.specs.Prelude.{◌≡◌, ◌*◌, ◌≤◌, max, length};
 ghost use Rattle.lists.specs.Left.{firsts, seconds, pairs_if_fit, LeftPairs};
 ghost use Rattle.lists.specs.Written.{over, fitting};
@@ -11,7 +13,7 @@ use reader::{copy_u64s, remaining, saturating_add, smaller, u32_at, u64_at};
 use refusal::{CountAnswer, Refusal};
 
 // Where the reactions of an event stand in its body.
-#[derive(Drop)]
+#[derive(Clone, Copy)]
 pub enum Source {
     // So many records from an offset on, none of which is left out: the precursor at 0, the energy at 16.
     Every { from: u64, stride: u64, count: u64 },

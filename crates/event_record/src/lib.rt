@@ -1,5 +1,7 @@
 // What a scan event holds, whatever its version (scan_event.rs): the answer of the functions that read one, the places of one
 // that was found, and its activation. The lists go into lent slices; floats that are only read keep their bits.
+#![tactic(auto)]
+
 ghost use Rattle.std.specs.Prelude.{◌≡◌};
 ghost use Rattle.event_record.specs.Activation.{above, with_precursor, supplemental, supplemented as supplemented_by, event_activation};
 
@@ -11,7 +13,7 @@ use float_bits::f64_of_bits;
 use reader::u8_at;
 use refusal::Refusal;
 
-#[derive(Drop)]
+#[derive(Clone, Copy)]
 pub struct ScanEvent {
     // How many elements of each slice are the event's; reactions counts precursors and energies alike.
     pub preamble_len: u64,
@@ -26,20 +28,20 @@ pub struct ScanEvent {
 }
 
 // An event, and the place after it, which is no field of the event.
-#[derive(Drop)]
+#[derive(Clone, Copy)]
 pub struct EventAndNext {
     pub event: ScanEvent,
     pub next: u64,
 }
 
-#[derive(Drop)]
+#[derive(Clone, Copy)]
 pub enum EventAnswer {
     Event(EventAndNext),
     Refused(Refusal),
 }
 
 // Where the lists of an event stand in its body, and its window.
-#[derive(Drop)]
+#[derive(Clone, Copy)]
 pub struct Lists {
     pub reactions: Source,
     pub coefficients_at: u64,
@@ -48,7 +50,7 @@ pub struct Lists {
 }
 
 // An event that was found: where its preamble stands in the run, and the place after it. Its body is all that follows the preamble.
-#[derive(Drop)]
+#[derive(Clone, Copy)]
 pub struct Places {
     pub preamble: u64,
     pub preamble_len: u64,
@@ -56,7 +58,7 @@ pub struct Places {
     pub next: u64,
 }
 
-#[derive(Drop)]
+#[derive(Clone, Copy)]
 pub enum PlacesAnswer {
     At(Places),
     Refused(Refusal),

@@ -1,5 +1,7 @@
 // The acquisition window in the body of a scan event from version 66 on (`plausible_window` and the candidate search of
 // `read_v66` in scan_event.rs).
+#![tactic(auto)]
+
 ghost use Rattle.std.specs.Prelude.{◌≡◌, ◌∷◌, [], length};
 ghost use Rattle.event_window.specs.Window.{window_of, first_window, candidates};
 ghost use Rattle.event_window.specs.Internal.{first_of};
@@ -7,14 +9,14 @@ ghost use Rattle.event_window.specs.Internal.{first_of};
 use float_bits::{f64_of_bits, is_finite};
 use reader::{remaining, saturating_sub, u64_at};
 
-#[derive(Drop)]
+#[derive(Clone, Copy)]
 pub enum Window {
     Absent,
     Ends(f64, f64),
 }
 
 // A window, the bits of its ends, and its offset in the body; 0 where it is absent.
-#[derive(Drop)]
+#[derive(Clone, Copy)]
 pub struct FoundWindow {
     pub window: Window,
     pub low: u64,

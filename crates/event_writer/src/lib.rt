@@ -1,4 +1,6 @@
 // Writes a scan event that was found to lent slices, whatever its layout.
+#![tactic(auto)]
+
 ghost use Rattle.std.specs.Prelude.{◌≡◌, true, [], ◌∷◌, min, length};
 ghost use Rattle.lists.specs.Left.{fits, lengths, over_all, LeftLists};
 ghost use Rattle.event_reactions.specs.Reactions.{in_source};

@@ -1,4 +1,6 @@
 // From an f64 to the nearest f32, a tie to the even one (`as f32`), worked out from the bits.
+#![tactic(auto)]
+
 ghost use Rattle.std.specs.Prelude.{◌≡◌, ◌^◌, ◌<◌};
 ghost use Rattle.float_bits.specs.Rounding.{nearest_half_even};
 ghost use Rattle.float_narrow.specs.Internal.{narrow_bits};
@@ -25,7 +27,7 @@ fn nearest_shift(n: u64, s: u64) -> u64
 }
 
 // The f32 pattern for an f64 pattern, both with the sign off.
-fn to_bits-narrow_bits(r: u64) -> u64
+fn narrow_bits(r: u64) -> u64
     ensures { result ≡ narrow_bits r }
 {
     let field = r >> 52;
@@ -51,7 +53,7 @@ pub fn narrowed(x: f64) -> f32
         return 0.0 / 0.0;
     }
     let bits = f64::to_bits(x);
-    let size = to_bits-narrow_bits(bits % 0x8000_0000_0000_0000) as u32;
+    let size = narrow_bits(bits % 0x8000_0000_0000_0000) as u32;
     if bits < 0x8000_0000_0000_0000 {
         f32_of_bits(size)
     } else {

@@ -1,4 +1,6 @@
 // A mass in ten-thousandths: the nearest whole number, a half up, judged on the exact binary value.
+#![tactic(auto)]
+
 ghost use Rattle.std.specs.Prelude.{◌≡◌, T};
 ghost use Rattle.std.specs.Float.Ieee.{le};
 ghost use Rattle.refusal.specs.Number.{outcome_of_count};

@@ -1,5 +1,7 @@
 // Lists the tray on standard input, in the lines of document 01 but for the pairs that are not listed (L1). The texts are made by
 // `listing_tray`, scan by scan. An input that cannot be read is no tray: standard error says what happened.
+#![tactic(auto)]
+
 ghost use Rattle.std.specs.Prelude.{◌≡◌, suc, ◌≤◌, ◌<◌, length, drop};
 ghost use Rattle.refusal.specs.Outcome.{ok};
 ghost use Rattle.tray_header.specs.Header.{read_tray_header};

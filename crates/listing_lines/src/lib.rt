@@ -1,5 +1,7 @@
 // The lines of the listing program, at the front of a lent slice. Each public function answers how many bytes it wrote, or
 // refusal 8 where the slice does not hold them all.
+#![tactic(auto)]
+
 ghost use Rattle.std.specs.Prelude.{◌≡◌, [], ◌∷◌, ◌++◌, ◌^◌, ◌<◌, min, leb, length};
 ghost use Rattle.lists.specs.Left.{LeftList};
 ghost use Rattle.refusal.specs.Number.{number as number_of, carried};

@@ -1,4 +1,6 @@
 // The pairs of a scan that are listed, moved to the fronts of their slices.
+#![tactic(auto)]
+
 ghost use Rattle.std.specs.Prelude.{◌≡◌, length};
 ghost use mathlib.Core.List.{zip};
 ghost use Rattle.lists.specs.Left.{columns};

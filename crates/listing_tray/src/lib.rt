@@ -1,5 +1,7 @@
 // The text of a tray's listing, piece by piece: the header's line, and the lines of one scan. Each function answers how many
 // bytes it wrote, or refusal 8 where the slice does not hold them all.
+#![tactic(auto)]
+
 ghost use Rattle.std.specs.Prelude.{◌≡◌};
 ghost use Rattle.lists.specs.Left.{LeftList};
 ghost use Rattle.tray_header.specs.Header.{outcome_of};
@@ -15,7 +17,7 @@ use tray_header::{TrayHeader, TrayHeaderAnswer};
 use tray_scan::{ScanAnswer, format_in, scan_at};
 
 // How many bytes of a scan's text were written, and the place to read the next event at.
-#[derive(Drop)]
+#[derive(Clone, Copy)]
 pub struct ListedScan {
     pub written: CountAnswer,
     pub next: u64,

@@ -1,4 +1,6 @@
 // A whole packet: profile, peaks and labels (`ScanDataPacket::read` of scan_data.rs).
+#![tactic(auto)]
+
 ghost use Rattle.std.specs.Prelude.{◌≡◌, [], ◌∷◌};
 ghost use Rattle.lists.specs.Left.{fits, over_all, LeftLists};
 ghost use Rattle.packet_record.specs.Packet.{with_nodes};
@@ -45,7 +47,7 @@ fn write_chunks(
 }
 
 // How many chunks a profile has, and how many values they hold together.
-#[derive(Drop)]
+#[derive(Clone, Copy)]
 struct ChunkCounts {
     chunks: u64,
     points: u64,

@@ -1,4 +1,6 @@
 // The header of a scan data packet (`PacketHeader` of scan_data.rs). Sizes count words of four bytes.
+#![tactic(auto)]
+
 ghost use Rattle.std.specs.Prelude.{◌≡◌, ◌≤◌};
 ghost use Rattle.parser.specs.Parser.{remaining};
 ghost use Rattle.parser.specs.Internal.{value};
@@ -7,7 +9,7 @@ ghost use Rattle.packet_header.specs.Header.{header, read_packet_header, outcome
 use reader::{remaining, u32_at};
 use refusal::{Part, Refusal};
 
-#[derive(Drop)]
+#[derive(Clone, Copy)]
 pub struct PacketHeader {
     pub profile_size: u32,
     pub peak_list_size: u32,
@@ -20,7 +22,7 @@ pub struct PacketHeader {
     pub high_mz: u32,
 }
 
-#[derive(Drop)]
+#[derive(Clone, Copy)]
 pub enum HeaderAnswer {
     Header(PacketHeader),
     Refused(Refusal),

@@ -1,4 +1,6 @@
 // The label streams after a packet's peak list (`read_labels` of scan_data.rs): descriptors, resolutions and noise nodes.
+#![tactic(auto)]
+
 ghost use Rattle.std.specs.Prelude.{◌≡◌};
 ghost use Rattle.refusal.specs.Outcome.{on_ok};
 ghost use Rattle.packet_labels.specs.Labels.{read_labels, streams_at, outcome_of};
@@ -9,7 +11,7 @@ use reader::remaining;
 use refusal::{Part, Refusal};
 
 // What the streams hold, and where. Nothing is written: the words stay where they are.
-#[derive(Drop)]
+#[derive(Clone, Copy)]
 pub struct Labels {
     pub descriptors: u64,
     pub descriptors_at: u64,
@@ -23,7 +25,7 @@ pub struct Labels {
     pub next: u64,
 }
 
-#[derive(Drop)]
+#[derive(Clone, Copy)]
 pub enum LabelsAnswer {
     Labels(Labels),
     Refused(Refusal),

@@ -1,5 +1,7 @@
 // Noise and labels by the nodes of a packet that was read (`ScanDataPacket::noise_at` of scan_data.rs). The nodes stay in the run,
 // where the record says; a record of other places is answered by what the run has there.
+#![tactic(auto)]
+
 ghost use Rattle.std.specs.Prelude.{◌≡◌, ◌+◌, ◌*◌, min, length, [], ◌∷◌};
 ghost use Rattle.parser.specs.Parser.{bytes};
 ghost use Rattle.noise.specs.Nodes.{nodes_of};

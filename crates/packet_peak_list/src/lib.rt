@@ -1,4 +1,6 @@
 // The centroid peak list of a packet (`read_peaks` and `read_peaks_only` of scan_data.rs).
+#![tactic(auto)]
+
 ghost use Rattle.std.specs.Prelude.{◌≡◌, ◌≤◌};
 ghost use Rattle.lists.specs.Left.{LeftPairs};
 ghost use Rattle.packet_peak_list.specs.PeakList.{is_wide, item_size, read_peaks, outcome_of_list, skip_to_peaks, outcome_of_skipped, read_peaks_only};
@@ -10,7 +12,7 @@ use refusal::{CountAnswer, Part, Refusal};
 
 // Where the peaks of a list stand: the place of the first, how many there are, whether an m/z is an f64, and the place
 // after the list.
-#[derive(Drop)]
+#[derive(Clone, Copy)]
 pub struct PeakList {
     pub at: u64,
     pub count: u64,
@@ -18,20 +20,20 @@ pub struct PeakList {
     pub next: u64,
 }
 
-#[derive(Drop)]
+#[derive(Clone, Copy)]
 pub enum PeakListAnswer {
     List(PeakList),
     Refused(Refusal),
 }
 
 // A packet's header and its peak list.
-#[derive(Drop)]
+#[derive(Clone, Copy)]
 pub struct HeaderAndPeaks {
     pub header: PacketHeader,
     pub list: PeakList,
 }
 
-#[derive(Drop)]
+#[derive(Clone, Copy)]
 pub enum SkippedAnswer {
     Packet(HeaderAndPeaks),
     Refused(Refusal),

@@ -1,5 +1,7 @@
 // Where the parts of a packet stand, its profile judged chunk by chunk (`ScanDataPacket::read` of scan_data.rs). Nothing is
 // handed out.
+#![tactic(auto)]
+
 ghost use Rattle.std.specs.Prelude.{◌≡◌, ◌≤◌};
 ghost use Rattle.parser.specs.Parser.{remaining};
 ghost use Rattle.refusal.specs.Outcome.{on_ok};
@@ -15,7 +17,7 @@ use packet_record::{PacketPlacesAnswer, PacketProfile, with_labels};
 use refusal::Refusal;
 
 // A packet's profile, if it has one, and the place after it.
-#[derive(Drop)]
+#[derive(Clone, Copy)]
 enum FoundProfile {
     Found(PacketProfile, u64),
     Refused(Refusal),

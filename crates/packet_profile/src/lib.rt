@@ -1,4 +1,6 @@
 // The profile of a packet (`Profile::read` of scan_data.rs): chunks of signal, each with a size of its own.
+#![tactic(auto)]
+
 ghost use Rattle.std.specs.Prelude.{◌≡◌, ◌≤◌};
 ghost use Rattle.parser.specs.Parser.{parse, repeat};
 ghost use Rattle.packet_profile.specs.Profile.{is_fudged, head_size, chunk, fudge_at, find_signal, outcome_of_signal, read_profile, outcome_of};
@@ -8,7 +10,7 @@ use reader::{remaining, saturating_add, u32_at, u64_at};
 use refusal::{Part, Refusal};
 
 // Nothing is written: the chunks stay where they are.
-#[derive(Drop)]
+#[derive(Clone, Copy)]
 pub struct Profile {
     // The bits of two f64.
     pub first_value: u64,
@@ -23,7 +25,7 @@ pub struct Profile {
     pub points: u64,
 }
 
-#[derive(Drop)]
+#[derive(Clone, Copy)]
 pub enum ProfileAnswer {
     // The profile, and the place after it.
     Profile(Profile, u64),
@@ -31,27 +33,27 @@ pub enum ProfileAnswer {
 }
 
 // Where a chunk's signal stands, how many values it has, and the place after it.
-#[derive(Drop)]
+#[derive(Clone, Copy)]
 pub struct Signal {
     pub at: u64,
     pub points: u64,
     pub next: u64,
 }
 
-#[derive(Drop)]
+#[derive(Clone, Copy)]
 pub enum SignalAnswer {
     Signal(Signal),
     Refused(Refusal),
 }
 
 // How many signal values the chunks hold, and the place after them.
-#[derive(Drop)]
+#[derive(Clone, Copy)]
 struct ChunkList {
     points: u64,
     next: u64,
 }
 
-#[derive(Drop)]
+#[derive(Clone, Copy)]
 enum ChunksAnswer {
     Chunks(ChunkList),
     Short,

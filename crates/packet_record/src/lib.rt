@@ -1,5 +1,7 @@
 // What a scan data packet holds, whichever of its readers read it (`ScanDataPacket` of scan_data.rs): the answer, and what
 // the readers share once the peak list is found. The lists go into lent slices; fields that are only read keep their bits.
+#![tactic(auto)]
+
 ghost use Rattle.std.specs.Prelude.{◌≡◌, true, [], ◌∷◌};
 ghost use Rattle.refusal.specs.Outcome.{on_ok};
 ghost use Rattle.lists.specs.Left.{fits, lengths, over_all, LeftLists};
@@ -15,13 +17,13 @@ use reader::{copy_u32s, saturating_add};
 use refusal::Refusal;
 
 // A packet without a profile, or one whose profile is passed over, has none.
-#[derive(Drop)]
+#[derive(Clone, Copy)]
 pub enum PacketProfile {
     Absent,
     Present(Profile),
 }
 
-#[derive(Drop)]
+#[derive(Clone, Copy)]
 pub struct ScanDataPacket {
     pub header: PacketHeader,
     pub profile: PacketProfile,
@@ -36,14 +38,14 @@ pub struct ScanDataPacket {
     pub next: u64,
 }
 
-#[derive(Drop)]
+#[derive(Clone, Copy)]
 pub enum PacketAnswer {
     Packet(ScanDataPacket),
     Refused(Refusal),
 }
 
 // Where a packet's parts stand, before anything is written.
-#[derive(Drop)]
+#[derive(Clone, Copy)]
 pub struct PacketPlaces {
     pub header: PacketHeader,
     pub profile: PacketProfile,
@@ -51,7 +53,7 @@ pub struct PacketPlaces {
     pub labels: Labels,
 }
 
-#[derive(Drop)]
+#[derive(Clone, Copy)]
 pub enum PacketPlacesAnswer {
     Places(PacketPlaces),
     Refused(Refusal),

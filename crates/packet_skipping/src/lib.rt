@@ -1,4 +1,6 @@
 // A packet's peaks and labels, with its profile passed over (`ScanDataPacket::read_skip_profile` of scan_data.rs).
+#![tactic(auto)]
+
 ghost use Rattle.std.specs.Prelude.{[], ◌∷◌};
 ghost use Rattle.lists.specs.Left.{LeftLists};
 ghost use Rattle.packet_record.specs.Packet.{with_nodes};

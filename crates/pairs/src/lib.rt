@@ -1,5 +1,7 @@
 // The pairs of m/z and intensity of a scan, in two lent slices: those of a profile (`Profile::to_mz_intensity` of
 // scan_data.rs), and those of a peak list.
+#![tactic(auto)]
+
 ghost use Rattle.std.specs.Prelude.{◌≡◌, cond, ◌+◌, ◌*◌, ◌≤◌, length};
 ghost use Rattle.lists.specs.Left.{firsts, seconds, pairs_if_fit, LeftPairs};
 ghost use Rattle.lists.specs.Written.{each, over};

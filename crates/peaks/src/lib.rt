@@ -1,5 +1,7 @@
 // A list of centroid peaks in two lent slices: a peak's m/z as the bits of an f64, its abundance as those of an f32. Packets,
 // flat records and SRM records hand their peaks out here.
+#![tactic(auto)]
+
 ghost use Rattle.std.specs.Prelude.{◌≡◌, ◌+◌, ◌*◌};
 ghost use Rattle.lists.specs.Left.{firsts, seconds, pairs_if_fit, LeftList, LeftPairs};
 ghost use Rattle.lists.specs.Written.{each, fitting};
@@ -12,7 +14,7 @@ use reader::{copy_u32s, copy_u64s, saturating_add, u32_at};
 use refusal::{CountAnswer, Refusal};
 
 // Where the m/z of the first of some peaks stands, and how many there are.
-#[derive(Drop)]
+#[derive(Clone, Copy)]
 pub enum PeaksPlace {
     At { place: u64, count: u64 },
     Refused(Refusal),

@@ -1,5 +1,7 @@
 // Answers the requests of docs/REQUESTS.md, which it reads from standard input, by the decoder's public functions.
 // The program in reference/ prints the same.
+#![tactic(auto)]
+
 mod serve;
 mod words;
 

@@ -1,4 +1,6 @@
 // Answers the requests on scan events, their preambles and their places.
+#![tactic(auto)]
+
 ghost use Rattle.std.specs.Prelude.{◌≤◌, length};
 ghost use Rattle.probe_text.specs.Held.{held};
 
@@ -9,7 +11,7 @@ pub mod scan_events;
 use probe_text::Answered;
 
 // The request words that are answered here.
-#[derive(Drop)]
+#[derive(Clone, Copy)]
 enum Keyword {
     Event,
     Counted,

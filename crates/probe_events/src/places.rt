@@ -6,7 +6,7 @@ use probe_text::request::{U16, U32, U64};
 use probe_text::{answer, request};
 
 // The fields VERSION, PRIMARY, DEPENDENT and PLACE, and where they end.
-#[derive(Drop)]
+#[derive(Clone, Copy)]
 struct EventFields {
     version: u32,
     primary: u32,

@@ -9,7 +9,7 @@ use probe_text::request::{LENT, PREAMBLE, U32, U64};
 use probe_text::{answer, lent, request};
 
 // Which function reads the event, and what it is given beside the run and the place.
-#[derive(Drop)]
+#[derive(Clone, Copy)]
 enum Reading {
     Any {
         version: u32,
@@ -20,7 +20,7 @@ enum Reading {
 }
 
 // The fields P, Q, R and C, and where they end.
-#[derive(Drop)]
+#[derive(Clone, Copy)]
 pub struct EventLengths {
     pub preamble: usize,
     pub precursors: usize,

@@ -1,4 +1,6 @@
 // Answers the requests on noise and labels: the crates `float_narrow`, `noise` and `packet_noise`.
+#![tactic(auto)]
+
 ghost use Rattle.std.specs.Prelude.{◌≤◌, length};
 ghost use Rattle.probe_text.specs.Held.{held};
 
@@ -231,7 +233,7 @@ fn packet_labels(rest: &[u8], data: &mut [u8], out: &mut [u8], n: usize) -> usiz
 }
 
 // The request words that are answered here.
-#[derive(Drop)]
+#[derive(Clone, Copy)]
 enum Keyword {
     Narrow,
     Noise,

@@ -1,4 +1,6 @@
 // Answers the requests on packets with the lists that they hand out: the crates `packet_skipping` and `packet_full`.
+#![tactic(auto)]
+
 ghost use Rattle.std.specs.Prelude.{◌≤◌, length};
 ghost use Rattle.probe_text.specs.Held.{held};
 
@@ -287,7 +289,7 @@ fn packet(whole: bool, rest: &[u8], data: &mut [u8], out: &mut [u8], n: usize) -
 }
 
 // The request words that are answered here.
-#[derive(Drop)]
+#[derive(Clone, Copy)]
 enum Keyword {
     SkipProfile,
     Packet,

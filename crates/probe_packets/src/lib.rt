@@ -1,4 +1,6 @@
 // Answers the requests on headers and places of scan data packets: the crates `packet_header` and `packet_places`.
+#![tactic(auto)]
+
 ghost use Rattle.std.specs.Prelude.{◌≤◌, length};
 ghost use Rattle.probe_text.specs.Held.{held};
 
@@ -110,7 +112,7 @@ fn find_places(rest: &[u8], data: &mut [u8], out: &mut [u8], n: usize) -> usize
 }
 
 // The request words that are answered here.
-#[derive(Drop)]
+#[derive(Clone, Copy)]
 enum Keyword {
     PacketHeader,
     FindPlaces,

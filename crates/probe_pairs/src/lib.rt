@@ -1,4 +1,6 @@
 // Answers the requests on pairs of m/z and intensity: the crates `calibration`, `packet_profile` and `pairs`.
+#![tactic(auto)]
+
 ghost use Rattle.std.specs.Prelude.{◌≤◌, length};
 ghost use Rattle.probe_text.specs.Held.{held};
 
@@ -104,7 +106,7 @@ fn pairs(rest: &[u8], data: &mut [u8], out: &mut [u8], n: usize) -> usize
 }
 
 // The request words that are answered here.
-#[derive(Drop)]
+#[derive(Clone, Copy)]
 enum Keyword {
     FreqToMz,
     Pairs,

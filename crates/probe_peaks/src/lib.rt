@@ -1,5 +1,7 @@
 // Answers the requests on peaks of packets, of flat and of SRM records, and on SRM windows: the crates `packet_peak_list`,
 // `srm_flat_peaks` and `srm_scan`.
+#![tactic(auto)]
+
 ghost use Rattle.std.specs.Prelude.{◌≤◌, length};
 ghost use Rattle.probe_text.specs.Held.{held};
 
@@ -12,7 +14,7 @@ use srm_flat_peaks::{find_flat_peaks, read_flat_peaks};
 use srm_scan::{find_srm_peaks, read_scan_srm_v66, read_scan_srm_v66_windows};
 
 // Which function reads the peaks, and what it is given beside the run.
-#[derive(Drop)]
+#[derive(Clone, Copy)]
 enum Reading {
     Packet(u64),
     Flat { data: u64, offset: u64, size: u32 },
@@ -20,7 +22,7 @@ enum Reading {
 }
 
 // The fields DATA and OFFSET, and where they end.
-#[derive(Drop)]
+#[derive(Clone, Copy)]
 struct DataAndOffset {
     data: u64,
     offset: u64,
@@ -185,7 +187,7 @@ fn find_srm(rest: &[u8], data: &mut [u8], out: &mut [u8], n: usize) -> usize
 }
 
 // The request words that are answered here.
-#[derive(Drop)]
+#[derive(Clone, Copy)]
 enum Keyword {
     Peaks,
     Flat,

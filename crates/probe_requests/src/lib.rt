@@ -1,4 +1,6 @@
 // Answers the requests on parts of a tray: asks the crates in turn that know some of the words.
+#![tactic(auto)]
+
 ghost use Rattle.std.specs.Prelude.{◌≤◌, length};
 ghost use Rattle.probe_text.specs.Held.{held};
 

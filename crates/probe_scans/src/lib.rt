@@ -1,5 +1,7 @@
 // Answers the requests on scan formats, entries of the scan index, the data of a scan and which pairs of it are listed: the
 // crates `scan_format`, `scan_index`, `tray_data` and `listing_pairs`.
+#![tactic(auto)]
+
 ghost use Rattle.std.specs.Prelude.{◌≤◌, ◌≡◌, length};
 ghost use Rattle.probe_text.specs.Held.{held};
 
@@ -209,7 +211,7 @@ fn listed(rest: &[u8], data: &mut [u8], out: &mut [u8], n: usize) -> usize
 }
 
 // The request words that are answered here.
-#[derive(Drop)]
+#[derive(Clone, Copy)]
 enum Keyword {
     Entry,
     EntrySize,

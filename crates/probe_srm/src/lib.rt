@@ -1,4 +1,6 @@
 // Answers the requests on searches in a method's bytes: the crates `srm_transition` and `srm_channels`.
+#![tactic(auto)]
+
 ghost use Rattle.std.specs.Prelude.{◌≤◌, length};
 ghost use Rattle.probe_text.specs.Held.{held};
 
@@ -133,7 +135,7 @@ fn channels(rest: &[u8], data: &mut [u8], out: &mut [u8], n: usize) -> usize
 }
 
 // The request words that are answered here.
-#[derive(Drop)]
+#[derive(Clone, Copy)]
 enum Keyword {
     V63,
     EventTransition,

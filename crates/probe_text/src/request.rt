@@ -20,7 +20,7 @@ pub const PREAMBLE: u64 = 256;
 const NOWHERE: usize = 0xffff_ffff_ffff_ffff;
 
 // A number, or how many bytes there are, and where the field ends.
-#[derive(Drop)]
+#[derive(Clone, Copy)]
 pub struct Field {
     pub value: u64,
     pub end: usize,
@@ -35,7 +35,7 @@ fn nowhere() -> Field
     }
 }
 
-#[derive(Drop)]
+#[derive(Clone, Copy)]
 enum Value {
     Is(u64),
     Bad,
@@ -217,7 +217,7 @@ pub fn u16s(line: &[u8], at: usize, data: &mut [u8], out: &mut [u16]) -> Field
 }
 
 // Two lent lengths, and where their fields end.
-#[derive(Drop)]
+#[derive(Clone, Copy)]
 pub struct Lengths {
     pub first: usize,
     pub second: usize,

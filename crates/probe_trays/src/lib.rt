@@ -1,4 +1,6 @@
 // Answers the requests on scans of a tray and the places of their events: the crate `tray`.
+#![tactic(auto)]
+
 ghost use Rattle.std.specs.Prelude.{◌≤◌, length};
 ghost use Rattle.probe_text.specs.Held.{held};
 
@@ -11,14 +13,14 @@ use tray::{read_scan, read_scan_from};
 use tray_scan::{Scan, ScanAnswer};
 
 // Whether the scan's event is walked to, or its place is given.
-#[derive(Drop)]
+#[derive(Clone, Copy)]
 enum EventPlace {
     Walked,
     Given(u64),
 }
 
 // Which scan is read, and by which function.
-#[derive(Drop)]
+#[derive(Clone, Copy)]
 struct Reading {
     k: u32,
     event: EventPlace,
@@ -214,7 +216,7 @@ fn next_event(rest: &[u8], data: &mut [u8], out: &mut [u8], n: usize) -> usize
 }
 
 // The request words that are answered here.
-#[derive(Drop)]
+#[derive(Clone, Copy)]
 enum Keyword {
     Scan,
     ScanFrom,

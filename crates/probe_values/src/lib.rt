@@ -1,4 +1,6 @@
 // Answers the requests on numbers, floats and codes.
+#![tactic(auto)]
+
 ghost use Rattle.std.specs.Prelude.{◌≤◌, length};
 ghost use Rattle.probe_text.specs.Held.{held};
 
@@ -8,7 +10,7 @@ mod values;
 use probe_text::Answered;
 
 // The request words that are answered here.
-#[derive(Drop)]
+#[derive(Clone, Copy)]
 enum Keyword {
     Word,
     F64,

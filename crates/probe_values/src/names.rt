@@ -6,7 +6,7 @@ use probe_text::request::{LENT, U8, U32};
 use probe_text::{answer, lent, request};
 
 // The fields FAMILY and VALUE, and where they end.
-#[derive(Drop)]
+#[derive(Clone, Copy)]
 struct Coded {
     family: u64,
     value: u32,

@@ -8,7 +8,7 @@ use probe_text::{answer, request};
 use scan_index::{EntryAnswer, ScanIndexEntry};
 
 // The first four fields of an entry, and where they end.
-#[derive(Drop)]
+#[derive(Clone, Copy)]
 struct Front {
     index: u32,
     scan_event: u16,
@@ -32,7 +32,7 @@ fn front_at(rest: &[u8], at: usize) -> Front {
 }
 
 // An entry, and where its fields end. They stand in the order of `entry`'s answer.
-#[derive(Drop)]
+#[derive(Clone, Copy)]
 struct EntryField {
     entry: ScanIndexEntry,
     end: usize,

@@ -38,7 +38,7 @@ fn activation_of(value: u64) -> Activation
 }
 
 // A code and an activation as a field, and where it ends.
-#[derive(Drop)]
+#[derive(Clone, Copy)]
 struct CodeField {
     code: Code,
     end: usize,
@@ -52,7 +52,7 @@ fn code_at(rest: &[u8], at: usize) -> CodeField {
     }
 }
 
-#[derive(Drop)]
+#[derive(Clone, Copy)]
 struct ActivationField {
     activation: Activation,
     end: usize,
@@ -67,7 +67,7 @@ fn activation_at(rest: &[u8], at: usize) -> ActivationField {
 }
 
 // The first six of what a preamble gives, and where they end.
-#[derive(Drop)]
+#[derive(Clone, Copy)]
 struct FirstSix {
     polarity: Code,
     scan_mode: Code,
@@ -101,7 +101,7 @@ fn first_six(rest: &[u8], at: usize) -> FirstSix {
 }
 
 // All that it gives, and where its fields end.
-#[derive(Drop)]
+#[derive(Clone, Copy)]
 struct SettingsField {
     settings: ScanEventPreamble,
     end: usize,

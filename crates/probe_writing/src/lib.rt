@@ -1,4 +1,6 @@
 // Answers the requests on writing index entries and scan events below version 66: the crates `scan_index` and `event_bytes`.
+#![tactic(auto)]
+
 ghost use Rattle.std.specs.Prelude.{◌≤◌, length};
 ghost use Rattle.probe_text.specs.Held.{held};
 
@@ -10,7 +12,7 @@ mod scan_events;
 use probe_text::Answered;
 
 // The request words that are answered here.
-#[derive(Drop)]
+#[derive(Clone, Copy)]
 enum Keyword {
     WriteEntry,
     RewriteEntry,

@@ -41,7 +41,7 @@ fn front(xs: &[u64], count: u64) -> &[u64] {
 }
 
 // How many elements the four lists of a request have, and where they end.
-#[derive(Drop)]
+#[derive(Clone, Copy)]
 struct ListLengths {
     preamble: u64,
     precursors: u64,

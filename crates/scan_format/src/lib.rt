@@ -1,11 +1,13 @@
 // Which layout a file's scan data has (scan_format.rs).
+#![tactic(auto)]
+
 ghost use Rattle.std.specs.Prelude.{◌≡◌};
 ghost use Rattle.lists.specs.Left.{LeftList};
 ghost use Rattle.scan_format.specs.Format.{format_of, flat, display_name};
 
 use refusal::CountAnswer;
 
-#[derive(Drop)]
+#[derive(Clone, Copy)]
 pub enum ScanDataFormat {
     PacketHeader,
     FlatV63,

@@ -1,5 +1,7 @@
 // Every channel of a method's bytes that belongs to an event of the run (`flatv66_event_channels` of reader.rs). The event
 // numbers are a slice. A record may start at any place, so every place is tested.
+#![tactic(auto)]
+
 ghost use Rattle.std.specs.Prelude.{◌≡◌, [], ◌∷◌, map, ◌+◌, ◌-◌, ◌≤◌, ◌<◌, length};
 ghost use Rattle.refusal.specs.Number.{outcome_of_count};
 ghost use Rattle.lists.specs.Written.{over};
@@ -13,7 +15,7 @@ use refusal::{CountAnswer, Refusal};
 use srm_transition::{f64_at, narrow_window};
 
 // An event's number, and the bits of two f64 numbers.
-#[derive(Drop)]
+#[derive(Clone, Copy)]
 pub struct Channel {
     pub event: u16,
     pub q1: u64,

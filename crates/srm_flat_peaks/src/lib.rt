@@ -1,5 +1,7 @@
 // Flat peaks (`read_flat_peaks` of scan_data.rs): a record ends with its peaks, two f32 each, and a flag byte for each of them.
 // How many peaks there are is not stored: data_size - 1 are tried first, then data_size - 2.
+#![tactic(auto)]
+
 ghost use Rattle.std.specs.Prelude.{◌≡◌, ◌<◌};
 ghost use Rattle.std.specs.Float.{binary32};
 ghost use Rattle.std.specs.Float.Ieee.{of_bits};
@@ -15,7 +17,7 @@ use reader::{remaining, saturating_add, saturating_sub, u32_at};
 use refusal::{CountAnswer, Part, Refusal};
 
 // What an attempt comes to.
-#[derive(Drop)]
+#[derive(Clone, Copy)]
 enum AttemptAnswer {
     Accepted { place: u64, count: u64 },
     PassedOver,

@@ -1,5 +1,7 @@
 // SRM scans of version 66 (`read_scan_srm_v66` and `read_scan_srm_v66_windows` of scan_data.rs): a count of channels, a window
 // for each, and then a peak for each. The record's size, which the Rust takes and never uses, is left out.
+#![tactic(auto)]
+
 ghost use Rattle.std.specs.Prelude.{◌≡◌, ◌+◌, ◌≤◌, length};
 ghost use Rattle.refusal.specs.Number.{outcome_of_count};
 ghost use Rattle.lists.specs.Left.{pairs_if_fit, LeftPairs};

@@ -1,6 +1,8 @@
 // Searches in a method's bytes for the transition of an SRM scan (`search_v63_transition` of scan_data.rs, and
 // `flatv66_event_transition` of reader.rs). A record may start at any place, so every place is tested; the first that
 // passes is the answer.
+#![tactic(auto)]
+
 ghost use Rattle.std.specs.Prelude.{◌≡◌, ◌+◌, ◌≤◌, length};
 ghost use Rattle.srm_transition.specs.Transition.{in_range, narrow_window, is_near, is_between};
 ghost use Rattle.srm_transition.specs.Transition.{v63_test, v63_at, search_v63_transition, event_test, flatv66_event_transition};
@@ -10,7 +12,7 @@ use float_bits::{absolute, f64_of_bits, is_finite};
 use reader::{remaining, u32_at, u64_at};
 
 // The place of the Q3 centre, and the bits of three f64 numbers.
-#[derive(Drop)]
+#[derive(Clone, Copy)]
 pub struct Transition {
     pub place: u64,
     pub q1: u64,
@@ -18,20 +20,20 @@ pub struct Transition {
     pub collision_energy: u64,
 }
 
-#[derive(Drop)]
+#[derive(Clone, Copy)]
 pub enum TransitionAnswer {
     None,
     Found(Transition),
 }
 
 // The place of the Q3 window's upper end, and the bits of Q1.
-#[derive(Drop)]
+#[derive(Clone, Copy)]
 pub struct EventTransition {
     pub place: u64,
     pub q1: u64,
 }
 
-#[derive(Drop)]
+#[derive(Clone, Copy)]
 pub enum EventTransitionAnswer {
     None,
     Found(EventTransition),

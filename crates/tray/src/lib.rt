@@ -1,4 +1,6 @@
 // Scan k of a tray, and where its events stand.
+#![tactic(auto)]
+
 ghost use Rattle.std.specs.Prelude.{◌≡◌, [], ◌∷◌};
 ghost use Rattle.refusal.specs.Number.{outcome_of_count};
 ghost use Rattle.lists.specs.Left.{LeftListsAndPairs};

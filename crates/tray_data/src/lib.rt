@@ -1,5 +1,7 @@
 // The data of a scan, by the format of its run: a packet, flat peaks or an SRM scan. They are found first, so that a scan is
 // judged whole before anything is written, and their pairs are written after.
+#![tactic(auto)]
+
 ghost use Rattle.std.specs.Prelude.{◌≡◌};
 ghost use Rattle.lists.specs.Left.{pairs_if_fit, LeftPairs};
 ghost use Rattle.refusal.specs.Outcome.{on_ok};
@@ -20,7 +22,7 @@ use srm_flat_peaks::find_flat_peaks;
 use srm_scan::find_srm_peaks;
 
 // Peaks at equal distances: an m/z, and right after it the abundance.
-#[derive(Drop)]
+#[derive(Clone, Copy)]
 pub struct PeakRow {
     pub at: u64,
     pub stride: u64,
@@ -29,13 +31,13 @@ pub struct PeakRow {
     pub wide: bool,
 }
 
-#[derive(Drop)]
+#[derive(Clone, Copy)]
 pub enum ScanData {
     Profile(Profile),
     Peaks(PeakRow),
 }
 
-#[derive(Drop)]
+#[derive(Clone, Copy)]
 pub enum DataAnswer {
     Data(ScanData),
     Refused(Refusal),

@@ -1,4 +1,6 @@
 // The header of a tray: a run, with what is needed to read its scans in front of it.
+#![tactic(auto)]
+
 ghost use Rattle.std.specs.Prelude.{◌≡◌, ◌≤◌};
 ghost use Rattle.parser.specs.Parser.{remaining};
 ghost use Rattle.parser.specs.Internal.{value};
@@ -7,7 +9,7 @@ ghost use Rattle.tray_header.specs.Header.{header, read_tray_header, outcome_of}
 use reader::{remaining, u32_at};
 use refusal::{Part, Refusal};
 
-#[derive(Drop)]
+#[derive(Clone, Copy)]
 pub struct TrayHeader {
     pub version: u32,
     // 0 or 1 in a header that was read.
@@ -22,7 +24,7 @@ pub struct TrayHeader {
     pub data: u32,
 }
 
-#[derive(Drop)]
+#[derive(Clone, Copy)]
 pub enum TrayHeaderAnswer {
     Header(TrayHeader),
     Refused(Refusal),

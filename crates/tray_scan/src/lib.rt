@@ -1,5 +1,7 @@
 // Scan k of a run, by its tray's header: the entry, the event and the data are found, the room of all slices is tested, and
 // then they are written.
+#![tactic(auto)]
+
 ghost use Rattle.std.specs.Prelude.{◌≡◌, [], ◌∷◌};
 ghost use Rattle.lists.specs.Left.{LeftListsAndPairs};
 ghost use Rattle.scan_index.specs.Entry.{outcome_of as outcome_of_entry};
@@ -17,7 +19,7 @@ use scan_index::{EntryAnswer, ScanIndexEntry};
 use tray_data::{DataAnswer, ScanData, data_pairs, find_data, pair_count};
 use tray_header::TrayHeader;
 
-#[derive(Drop)]
+#[derive(Clone, Copy)]
 pub struct Scan {
     pub entry: ScanIndexEntry,
     pub event: ScanEvent,
@@ -27,7 +29,7 @@ pub struct Scan {
     pub pairs: u64,
 }
 
-#[derive(Drop)]
+#[derive(Clone, Copy)]
 pub enum ScanAnswer {
     Scan(Scan),
     Refused(Refusal),
@@ -35,21 +37,21 @@ pub enum ScanAnswer {
 
 // A scan's answer, and the place to read the next event at: after the scan's event, or the largest of all where that was not
 // found, whatever became of the entry and the data.
-#[derive(Drop)]
+#[derive(Clone, Copy)]
 pub struct ScanAndNext {
     pub scan: ScanAnswer,
     pub next: u64,
 }
 
 // A scan whose bytes are all there.
-#[derive(Drop)]
+#[derive(Clone, Copy)]
 struct ScanPlaces {
     entry: ScanIndexEntry,
     event: Places,
     data: ScanData,
 }
 
-#[derive(Drop)]
+#[derive(Clone, Copy)]
 enum ScanPlacesAnswer {
     At(ScanPlaces),
     Refused(Refusal),

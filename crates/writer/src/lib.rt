@@ -1,5 +1,7 @@
 // Little-endian numbers into a lent slice, at a place of it: what `reader` reads. Every store has a meaning: a byte after the end
 // is left out. Whoever must store all tests the room first.
+#![tactic(auto)]
+
 ghost use Rattle.std.specs.Prelude.{◌≡◌};
 ghost use Rattle.std.proofs.lemmas.List.Edits.{sets};
 ghost use Rattle.layout.specs.Layout.{le_bytes, concat};

@@ -1,0 +1,40 @@
+-- `calibration::write_pairs` meets its contract. The invariant: the first i pairs are written, and the place is that of the
+-- next signal.
+use Rattle.std.proofs.Common.{◌≡◌, ◌+◌, ◌-◌, ◌*◌, ◌^◌, min, ap, ◌∙◌, arith, rules}
+use lib.Ieee.{binary32, of_bits}
+use Rattle.parser.specs.Parser.{bytes, little_endian, f32_at}
+use Rattle.lists.proofs.Laws.{Filling, fill_none, fill_more, fill_done}
+use Rattle.reader.proofs.Words.{le_saturated}
+use Rattle.reader.proofs.Copies.{next_place}
+use Rattle.calibration.specs.Internal.{mz_on}
+use Rattle.calibration.proofs.write_pairs.Goals as goal
+
+pub loop-i-init : goal.loop-i-init
+loop-i-init c = (fill_none _ _ _, fill_none _ _ _, omega arith)
+
+pub bounds-mz-i : goal.bounds-mz-i
+bounds-mz-i c = omega (arith, c.loop-i.invariant.0.same, c.requires.n_in_bounds)
+
+pub bounds-intensity-i : goal.bounds-intensity-i
+bounds-intensity-i c = omega (arith, c.loop-i.invariant.1.same, c.requires.n_in_bounds_2)
+
+pub loop-i-preserved : goal.loop-i-preserved
+loop-i-preserved c =
+    let l = c.loop-i in
+    let a = c.args in
+    let bits = c.u32_at.ensures ∙ ap (λ p. little_endian (bytes a.run.now p 4)) l.invariant.2 ∙ le_saturated a.run.now (a.at + l.i * 4) 4 (omega arith) in (
+      fill_more _ _ _ _ _ _ l.invariant.0 c.bin_to_mz.ensures (omega arith) (omega (arith, c.requires.n_in_bounds)),
+      fill_more _ _ _ _ _ _ l.invariant.1 (c.widened.ensures ∙ ap (of_bits binary32) bits) (omega arith) (omega (arith, c.requires.n_in_bounds_2)),
+      c.saturating_add-place.ensures ∙ next_place a.at l.i 4 l.place l.invariant.2,
+    )
+
+pub shape_of-mz : goal.shape_of-mz
+shape_of-mz c = c.loop-i.invariant.0.same
+
+pub shape_of-intensity : goal.shape_of-intensity
+shape_of-intensity c = c.loop-i.invariant.1.same
+
+pub returns : goal.returns
+returns c =
+    let l = c.loop-i.invariant in
+    record { mz_after = fill_done _ _ _ _ _ l.0 c.loop-i-test.false; intensity_after = fill_done _ _ _ _ _ l.1 c.loop-i-test.false }

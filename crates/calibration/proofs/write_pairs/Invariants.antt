@@ -1,0 +1,16 @@
+-- `calibration::write_pairs` meets its contract. The invariant: the first i pairs are written, and the place is that of the
+-- next signal.
+use Rattle.std.proofs.Common.{◌≡◌, ◌+◌, ◌-◌, ◌*◌, ◌^◌, min, ap, ◌∙◌, arith, rules}
+use lib.Ieee.{binary32, of_bits}
+use Rattle.parser.specs.Parser.{bytes, little_endian, f32_at}
+use Rattle.lists.proofs.Laws.{Filling, fill_none, fill_more, fill_done}
+use Rattle.reader.proofs.Words.{le_saturated}
+use Rattle.reader.proofs.Copies.{next_place}
+use Rattle.calibration.specs.Internal.{mz_on}
+use Rattle.calibration.proofs.write_pairs.Given as goal
+
+abbrev pub invariant-loop-i : goal.invariant-loop-i
+invariant-loop-i l = Filling (mz_on l.bins l.conversion) l.count l.initial.mz l.mz l.i × Filling (λ k. f32_at l.run (l.at + k * 4)) l.count l.initial.intensity l.intensity l.i × (l.place ≡ min (l.at + l.i * 4) (2 ^ 64 - 1))
+
+abbrev pub decreases-loop-i : goal.decreases-loop-i
+decreases-loop-i l = l.count - l.i

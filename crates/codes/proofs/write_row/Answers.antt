@@ -1,0 +1,27 @@
+-- `codes::write_row` meets its contract: the bytes lent to `text::write` are the row's name.
+use mathlib.Core.Path.{◌≡◌}
+use mathlib.Core.List.{[]}
+use Prim.Native.Nat.{◌+◌, ◌*◌, ◌-◌}
+use native.Mathlib.Omega.{arith}
+use lib.ListN.{get_or, take, drop}
+use Rattle.codes.specs.Internal.{rows}
+use Rattle.codes.proofs.Tables.{table, lengths, row_is, digit_is, row_within}
+use borrow.Author.Rules.{rules}
+use Rattle.codes.proofs.write_row.Goals as goal
+
+pub digit-requires : goal.digit-requires
+digit-requires c = omega (arith, digit_is _ c.requires)
+
+pub overflow_add-end : goal.overflow_add-end
+overflow_add-end c = omega (arith, row_within _ c.requires, c.digit.ensures)
+
+pub slice_bounds-write-end : goal.slice_bounds-write-end
+slice_bounds-write-end c = omega (arith, row_within _ c.requires, c.digit.ensures)
+
+pub returns : goal.returns
+returns c =
+    let k = c.args.row in
+    let n = c.digit.result in
+    let size : k * 8 + n - k * 8 ≡ get_or lengths k 0 - 48 = omega (arith, c.digit.ensures) in
+    let text : take (k * 8 + n - k * 8) (drop (k * 8) table) ≡ get_or rows k [] = rw size (row_is k c.requires) in
+    rw (← text) c.write.ensures

@@ -1,0 +1,24 @@
+-- `event_before_66::find_before_66` meets its contract.
+use native.Mathlib.Omega.{arith}
+use Rattle.event_before_66.proofs.Stages.{size_most}
+use Rattle.event_before_66.proofs.Answers.{short_head, short_middle, short_tail, whole}
+use borrow.Author.Rules.{rules}
+use Rattle.event_before_66.proofs.find_before_66.Goals as goal
+
+pub overflow_add-len : goal.overflow_add-len
+overflow_add-len c = omega (arith, size_most c.args.version, c.size_for_version-len.ensures)
+
+pub returns-then-m-remaining : goal.returns-then-m-remaining
+returns-then-m-remaining c =
+    whole _ _ _ c.size_for_version-len.ensures (omega arith) c.u32_at-n.ensures (omega arith) c.u32_at-m.ensures (omega arith) c.lists_of-lists.ensures
+
+pub returns-else-m-remaining : goal.returns-else-m-remaining
+returns-else-m-remaining c =
+    short_tail _ _ _ c.size_for_version-len.ensures (omega arith) c.u32_at-n.ensures (omega arith) c.u32_at-m.ensures (omega arith)
+
+pub returns-else-n-remaining : goal.returns-else-n-remaining
+returns-else-n-remaining c =
+    short_middle _ _ _ c.size_for_version-len.ensures (omega arith) c.u32_at-n.ensures (omega arith)
+
+pub returns-else-len-remaining : goal.returns-else-len-remaining
+returns-else-len-remaining c = short_head _ _ _ (omega (arith, c.size_for_version-len.ensures))

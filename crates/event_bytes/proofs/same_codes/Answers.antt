@@ -1,0 +1,6 @@
+-- `event_bytes::same_codes` meets its contract.
+use borrow.Author.Rules.{rules}
+use Rattle.event_bytes.proofs.same_codes.Goals as goal
+
+pub returns : goal.returns
+returns c = cc

@@ -1,0 +1,10 @@
+-- `event_counted::kept_count` meets its contract.
+use mathlib.Core.Path.{sym, ◌∙◌}
+use borrow.Author.Rules.{rules}
+use Rattle.event_counted.proofs.kept_count.Goals as goal
+
+pub returns-then-is_primary : goal.returns-then-is_primary
+returns-then-is_primary c = rw (sym c.is_primary.ensures ∙ c.if-is_primary.true)
+
+pub returns : goal.returns
+returns c = rw (sym c.is_primary.ensures ∙ c.if-is_primary.false)

@@ -1,0 +1,11 @@
+-- `event_from_66::reactions_of` meets its contract.
+use mathlib.Core.Path.{sym, ◌∙◌}
+use Rattle.event_from_66.proofs.Sought.{sought_is}
+use borrow.Author.Rules.{rules}
+use Rattle.event_from_66.proofs.reactions_of.Goals as goal
+
+pub returns-then-is_primary : goal.returns-then-is_primary
+returns-then-is_primary c = rw (sought_is, sym c.is_primary.ensures ∙ c.if-is_primary.true)
+
+pub returns : goal.returns
+returns c = rw (sought_is, sym c.is_primary.ensures ∙ c.if-is_primary.false)

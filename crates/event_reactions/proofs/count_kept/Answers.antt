@@ -1,0 +1,26 @@
+-- `event_reactions::count_kept` meets its contract. The invariant: `count` of the first i records are kept.
+use mathlib.Core.Path.{◌≡◌, sym, ◌∙◌}
+use mathlib.Core.Logic.{⊎_elim}
+use Prim.Native.Nat.{◌-◌, ◌≤◌}
+use native.Mathlib.Omega.{arith}
+use Rattle.event_reactions.proofs.Kept.{Counted, count_none, count_in, count_out}
+use borrow.Author.Rules.{rules}
+use Rattle.event_reactions.proofs.count_kept.Goals as goal
+
+pub loop-i-init : goal.loop-i-init
+loop-i-init c = (count_none _ _, search rules)
+
+pub loop-i-preserved : goal.loop-i-preserved
+loop-i-preserved c =
+    let inv = c.loop-i.invariant in
+    let says = rw c.u64_at.ensures at c.acceptable.ensures in
+    ⊎_elim
+    (λ w. (rw w.1 (count_in _ _ _ _ (sym says ∙ w.0.taken) inv.0), omega arith))
+    (λ w. (rw w.1 (count_out _ _ _ _ (sym says ∙ w.0.left) inv.0), omega arith))
+    c.if-acceptable.branch
+
+pub returns : goal.returns
+returns c =
+    let l = c.loop-i in
+    let all : l.i ≡ c.args.n = omega arith in
+    rw all at l.invariant.0.counted

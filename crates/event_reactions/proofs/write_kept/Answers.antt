@@ -1,0 +1,57 @@
+-- The invariant: those kept of the first i records are written, `count` of them.
+use mathlib.Core.Path.{◌≡◌, sym, ◌∙◌}
+use mathlib.Core.Bool.{true}
+use Prim.Native.Nat.{◌-◌, ◌≤◌, ◌<◌}
+use native.Mathlib.Omega.{arith}
+use lib.ListN.{length}
+use Rattle.event_reactions.specs.Reactions.{kept}
+use Rattle.event_reactions.proofs.Kept.{kept_room, Counted, count_none, count_in, count_out, Written, write_none, write_in, write_out}
+use Rattle.event_reactions.proofs.Sources.{by_ways}
+use borrow.Author.Rules.{rules}
+use Rattle.event_reactions.proofs.write_kept.Goals as goal
+use Rattle.event_reactions.proofs.write_kept.Goals.{After-acceptable}
+
+pub loop-i-init : goal.loop-i-init
+loop-i-init c = (count_none _ _, write_none _ _ _ _, search rules)
+
+-- there is room for a record that is kept
+module _ (a : After-acceptable) (taken : c.acceptable.result ≡ true) where
+  next_fits : c.loop-i.count < length (kept c.args.body.now c.args.from c.args.n)
+  next_fits =
+      let x = c.args in
+      rw c.loop-i.invariant.0.counted
+      (kept_room x.body.now x.from c.loop-i.i x.n (sym (rw c.u64_at-precursor.ensures at c.acceptable.ensures) ∙ taken) c.loop-i-test.true)
+
+pub bounds-precursors-k : goal.bounds-precursors-k
+bounds-precursors-k c = omega (arith, next_fits (goal.at.bounds-precursors-k c).After-acceptable c.if-acceptable.true, c.loop-i.invariant.1.same-precursors)
+
+pub bounds-energies-k : goal.bounds-energies-k
+bounds-energies-k c = omega (arith, next_fits (goal.at.bounds-energies-k c).After-acceptable c.if-acceptable.true, c.loop-i.invariant.1.same-energies)
+
+pub loop-i-preserved : goal.loop-i-preserved
+loop-i-preserved c =
+    let inv = c.loop-i.invariant in
+    let bits = c.u64_at-precursor.ensures in
+    let says = sym (rw bits at c.acceptable.ensures) in
+    by_ways
+    c.if-acceptable.branch
+    (λ w.
+    let h = says ∙ w.0.taken in
+    let fits = next_fits (goal.at.loop-i-preserved c).After-acceptable w.0.taken in
+    let stored = write_in _ _ _ _ _ _ _ _ h inv.0.counted (omega arith) (omega arith) inv.1 in
+    (rw w.4 (count_in _ _ _ _ h inv.0), rw (w.2, w.3, bits, w.1.ensures) stored, omega arith))
+    (λ w.
+    let h = says ∙ w.0.left in
+    (rw w.3 (count_out _ _ _ _ h inv.0), rw (w.1, w.2) (write_out _ _ _ _ _ _ _ h inv.1), omega arith))
+
+pub shape_of-precursors : goal.shape_of-precursors
+shape_of-precursors c = c.loop-i.invariant.1.same-precursors
+
+pub shape_of-energies : goal.shape_of-energies
+shape_of-energies c = c.loop-i.invariant.1.same-energies
+
+pub returns : goal.returns
+returns c =
+    let l = c.loop-i in
+    let all : l.i ≡ c.args.n = omega arith in
+    record { value = rw all at l.invariant.0.counted; precursors_after = rw all at l.invariant.1.precursors-written; energies_after = rw all at l.invariant.1.energies-written }

@@ -1,0 +1,36 @@
+-- `events::event_place` meets its contract: a turn passes one event (`Passed`).
+use mathlib.Core.Path.{sym, ap, ◌∙◌}
+use Prim.Native.Nat.{◌-◌}
+use native.Mathlib.Omega.{arith}
+use Rattle.refusal.specs.Number.{outcome_of_count}
+use Rattle.events.proofs.Ends.{Passed, passed_none, passed_more, passed_short, passed_all}
+use borrow.Author.Rules.{rules}
+use Rattle.events.proofs.event_place.Goals as goal
+
+pub loop-i-init : goal.loop-i-init
+loop-i-init c =
+    let a = c.args in
+    passed_none a.version a.body_primary a.body_dependent a.start a.k a.run.now
+
+pub returns-in-Refused : goal.returns-in-Refused
+returns-in-Refused c =
+    let a = c.args in
+    let l = c.loop-i in
+    passed_short a.version a.body_primary a.body_dependent a.start a.k a.run.now l.i l.at c.loop-i-test.true l.invariant (sym (ap outcome_of_count c.in-Refused.is) ∙ c.event_end.ensures)
+
+pub overflow_add-i : goal.overflow_add-i
+overflow_add-i c = omega (arith, c.loop-i-test.true)
+
+pub loop-i-smaller : goal.loop-i-smaller
+loop-i-smaller c = omega (arith, c.loop-i-test.true)
+
+pub loop-i-preserved : goal.loop-i-preserved
+loop-i-preserved c =
+    let a = c.args in
+    let l = c.loop-i in
+    passed_more a.version a.body_primary a.body_dependent a.start a.k a.run.now l.i l.at c.loop-i-test.true l.invariant _ (sym (ap outcome_of_count c.in-Count.is) ∙ c.event_end.ensures)
+
+pub returns : goal.returns
+returns c =
+    let a = c.args in
+    passed_all a.version a.body_primary a.body_dependent a.start a.k a.run.now c.loop-i.invariant c.loop-i-test.false

@@ -1,0 +1,13 @@
+-- `events::read` meets its contract: what was found is written.
+use Rattle.lists.proofs.Left.{left_same}
+use Rattle.event_writer.proofs.Reading.{read_refused, read_found}
+use Rattle.events.proofs.Ends.{then_read}
+use borrow.Author.Rules.{rules}
+use Rattle.events.proofs.read.Goals as goal
+
+pub returns-in-Refused : goal.returns-in-Refused
+returns-in-Refused c = left_same (then_read _ _ _ _ _ _) (read_refused _ (rw c.in-Refused.is at c.find_event.ensures))
+
+pub returns-in-At : goal.returns-in-At
+returns-in-At c =
+    left_same (then_read _ _ _ _ _ _) (read_found _ (rw c.in-At.is at c.find_event.ensures) c.write_event.ensures)

@@ -1,0 +1,19 @@
+-- `listing_lines::scan_fits` meets its contract: the first line's length, and a pair's in each turn, until there are too many.
+use mathlib.Core.Path.{◌≡◌, sym}
+use Prim.Native.Nat.{ℕ, ◌+◌, ◌-◌, ◌<◌, ◌≤◌, min}
+use native.Mathlib.Omega.{arith}
+use lib.Ieee.{Float}
+use lib.ListN.{length}
+use borrow.Author.Tests.{lt-leb}
+use Rattle.listing_lines.specs.Lines.{mass_text, scan_lines}
+use Rattle.listing_lines.proofs.Room.{mass_most}
+use Rattle.listing_lines.proofs.Listing.{lines_from, size_turn, size_end, first_size}
+use borrow.Author.Rules.{rules}
+use Rattle.listing_lines.proofs.scan_fits.Given as goal
+
+-- what is added up, and what is still to come
+abbrev pub invariant-loop-measured : goal.invariant-loop-measured
+invariant-loop-measured l = l.size + length (lines_from l.mz l.intensity l.measured) ≡ length (scan_lines l.number l.coefficients l.mz l.intensity)
+
+abbrev pub decreases-loop-measured : goal.decreases-loop-measured
+decreases-loop-measured l = l.pairs - l.measured

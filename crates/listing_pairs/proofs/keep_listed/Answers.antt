@@ -1,0 +1,56 @@
+-- `listing_pairs::keep_listed` meets its contract. The invariant: those listed among the first i pairs stand at the fronts.
+use mathlib.Core.Path.{sym, ap, ◌∙◌}
+use mathlib.Core.Logic.{⊎_elim}
+use Prim.Native.Nat.{◌-◌, ◌≤◌, ◌<◌}
+use native.Mathlib.Omega.{arith}
+use lib.ListN.{length}
+use lib.Ieee.{nan}
+use Rattle.listing_pairs.specs.Listed.{is_listed}
+use Rattle.listing_pairs.proofs.Keeping.{Keeping, keep_none, next_mass, keep_in, keep_out, keep_all}
+use borrow.Author.Rules.{rules}
+use Rattle.listing_pairs.proofs.keep_listed.Goals as goal
+use Rattle.listing_pairs.proofs.keep_listed.Goals.{In-loop-i}
+
+pub loop-i-init : goal.loop-i-init
+loop-i-init c = (keep_none _ _ _ _, omega arith)
+
+-- both slices have an i-th element
+module _ (c : In-loop-i) where
+  in_masses : c.loop-i.i < length c.loop-i.mz
+  in_masses = omega (arith, c.loop-i-test.true, c.loop-i.invariant.0.same-masses, c.smaller-pairs.ensures)
+
+  in_intensities : c.loop-i.i < length c.loop-i.intensity
+  in_intensities = omega (arith, c.loop-i-test.true, c.loop-i.invariant.0.same-intensities, c.smaller-pairs.ensures)
+
+pub bounds-mz-i : goal.bounds-mz-i
+bounds-mz-i c = in_masses (goal.at.bounds-mz-i c).In-loop-i
+
+pub bounds-mz-i-then-is_listed : goal.bounds-mz-i-then-is_listed
+bounds-mz-i-then-is_listed c = omega (arith, in_masses (goal.at.bounds-mz-i-then-is_listed c).In-loop-i, c.loop-i.invariant.0.within)
+
+pub bounds-mz-kept : goal.bounds-mz-kept
+bounds-mz-kept c = omega (arith, in_masses (goal.at.bounds-mz-kept c).In-loop-i, c.loop-i.invariant.0.within)
+
+pub bounds-intensity-i : goal.bounds-intensity-i
+bounds-intensity-i c = omega (arith, in_intensities (goal.at.bounds-intensity-i c).In-loop-i, c.loop-i.invariant.0.within)
+
+pub bounds-intensity-kept : goal.bounds-intensity-kept
+bounds-intensity-kept c = omega (arith, in_intensities (goal.at.bounds-intensity-kept c).In-loop-i, c.loop-i.invariant.0.within)
+
+pub loop-i-preserved : goal.loop-i-preserved
+loop-i-preserved c =
+    let inv = c.loop-i.invariant.0 in
+    let says = sym (c.is_listed.ensures ∙ ap (is_listed c.args.format) (next_mass _ _ _ _ inv)) in
+    ⊎_elim
+    (λ w. (rw (w.3, w.4, w.5) (keep_in _ _ _ _ inv (says ∙ w.0.taken) (omega (arith, in_masses (goal.at.loop-i-preserved c).In-loop-i, inv.same_masses)) (omega (arith, in_intensities (goal.at.loop-i-preserved c).In-loop-i, inv.same_intensities))), omega arith))
+    (λ w. (rw (w.1, w.2, w.3) (keep_out _ _ _ _ inv (says ∙ w.0.left)), omega arith))
+    c.if-is_listed.branch
+
+pub shape_of-mz : goal.shape_of-mz
+shape_of-mz c = c.loop-i.invariant.0.same-masses
+
+pub shape_of-intensity : goal.shape_of-intensity
+shape_of-intensity c = c.loop-i.invariant.0.same-intensities
+
+pub returns : goal.returns
+returns c = keep_all _ _ _ _ c.loop-i.invariant.0 (omega (arith, c.loop-i-test.false, c.loop-i.invariant.1, c.smaller-pairs.ensures))

@@ -1,0 +1,17 @@
+-- `listing_pairs::keep_listed` meets its contract. The invariant: those listed among the first i pairs stand at the fronts.
+use mathlib.Core.Path.{sym, ap, ◌∙◌}
+use mathlib.Core.Logic.{⊎_elim}
+use Prim.Native.Nat.{◌-◌, ◌≤◌, ◌<◌}
+use native.Mathlib.Omega.{arith}
+use lib.ListN.{length}
+use lib.Ieee.{nan}
+use Rattle.listing_pairs.specs.Listed.{is_listed}
+use Rattle.listing_pairs.proofs.Keeping.{Keeping, keep_none, next_mass, keep_in, keep_out, keep_all}
+use borrow.Author.Rules.{rules}
+use Rattle.listing_pairs.proofs.keep_listed.Given as goal
+
+abbrev pub invariant-loop-i : goal.invariant-loop-i
+invariant-loop-i l = Keeping l.format l.initial.mz l.initial.intensity nan l.mz l.intensity l.kept l.i × (l.i ≤ l.pairs)
+
+abbrev pub decreases-loop-i : goal.decreases-loop-i
+decreases-loop-i l = l.pairs - l.i

@@ -1,0 +1,29 @@
+-- A refusal's line, or the scan's lines.
+use mathlib.Core.Path.{sym}
+use native.Mathlib.Omega.{arith}
+use lib.ListN.{length-take}
+use Rattle.listing_tray.proofs.Texts.{refused_text, has_text}
+use borrow.Author.Rules.{rules}
+use Rattle.listing_tray.proofs.list_scan.Goals as goal
+
+pub slice_bounds-mz-end : goal.slice_bounds-mz-end
+slice_bounds-mz-end c = (has_text _ _ _ _ _ _ _ _ _ _ _ _ c.scan_at-read.ensures.left_lists_and_pairs _ c.in-Scan.is).in-mz
+
+pub slice_bounds-write_listed-end : goal.slice_bounds-write_listed-end
+slice_bounds-write_listed-end c = sym (simp length-take (omega (arith, array-borrow-prefix-mz (goal.at.slice_bounds-write_listed-end c).After-format_in)))
+
+pub slice_bounds-intensity-end : goal.slice_bounds-intensity-end
+slice_bounds-intensity-end c = (has_text _ _ _ _ _ _ _ _ _ _ _ _ c.scan_at-read.ensures.left_lists_and_pairs _ c.in-Scan.is).in-intensity
+
+pub slice_bounds-write_listed-end-in-Scan : goal.slice_bounds-write_listed-end-in-Scan
+slice_bounds-write_listed-end-in-Scan c = sym (simp length-take (omega (arith, array-borrow-prefix-intensity (goal.at.slice_bounds-write_listed-end-in-Scan c).After-mz-in-Scan-1)))
+
+pub returns-in-Refused : goal.returns-in-Refused
+returns-in-Refused c =
+    let a = c.args in record { left_list = rw (refused_text a.h a.k a.at a.run.now _ _ _ _ _ _ _ _ c.scan_at-read.ensures.left_lists_and_pairs _ c.in-Refused.is) at c.write_refusal_line.ensures; next_value = c.scan_at-read.ensures.next_value }
+
+pub returns-in-Scan : goal.returns-in-Scan
+returns-in-Scan c =
+    let a = c.args in
+    let text = (has_text a.h a.k a.at a.run.now _ _ _ _ _ _ _ _ c.scan_at-read.ensures.left_lists_and_pairs _ c.in-Scan.is).lines in
+    record { left_list = rw text at (rw c.format_in.ensures at c.write_listed.ensures); next_value = c.scan_at-read.ensures.next_value }

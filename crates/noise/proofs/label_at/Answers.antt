@@ -1,0 +1,12 @@
+-- `noise::label_at` meets its contract: a label for each case of the answer.
+use mathlib.Core.Path.{sym, ◌∙◌}
+use borrow.Author.Rules.{rules}
+use Rattle.noise.proofs.label_at.Goals as goal
+
+pub returns-in-None : goal.returns-in-None
+returns-in-None c =
+    rw (← c.f64_of_bits.ensures, sym c.noise_at-answer.ensures ∙ c.in-None.is)
+
+pub returns-in-Values : goal.returns-in-Values
+returns-in-Values c =
+    rw (← c.f64_of_bits.ensures, sym c.noise_at-answer.ensures ∙ c.in-Values.is)

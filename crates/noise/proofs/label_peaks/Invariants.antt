@@ -1,0 +1,19 @@
+-- `noise::label_peaks` meets its contract. The invariant: the labels of the first i masses are written.
+use mathlib.Core.Path.{◌≡◌, ap}
+use mathlib.Core.Bool.{true}
+use Prim.Native.Nat.{◌-◌, ◌≤◌}
+use lib.ListN.{length}
+use borrow.Author.Tests.{not-true, not-false}
+use Rattle.lists.proofs.Laws.{Filling, fill_none, fill_more, fill_done}
+use Rattle.noise.specs.Nodes.{nodes_of}
+use Rattle.noise.proofs.Labelling.{label_at, room_for, labels_room, labels_refused, labels_written}
+use borrow.Author.Rules.{rules}
+use Rattle.noise.proofs.label_peaks.Given as goal
+
+abbrev pub invariant-loop-i : goal.invariant-loop-i
+invariant-loop-i l = Filling (λ k. (label_at l.mz (nodes_of l.nodes) k).flag) l.count l.initial.flags l.flags l.i
+    × Filling (λ k. (label_at l.mz (nodes_of l.nodes) k).noise) l.count l.initial.noise l.noise l.i
+    × Filling (λ k. (label_at l.mz (nodes_of l.nodes) k).baseline) l.count l.initial.baseline l.baseline l.i
+
+abbrev pub decreases-loop-i : goal.decreases-loop-i
+decreases-loop-i l = l.count - l.i

@@ -1,0 +1,38 @@
+-- `noise::noise_along` meets its contract. The invariant: what is left to work out is `answer_from` at the k-th node.
+use mathlib.Core.Path.{◌≡◌, sym, ◌∙◌}
+use Prim.Native.Nat.{◌≤◌, ◌-◌, ◌/◌}
+use native.Mathlib.Omega.{arith}
+use lib.ListN.{length}
+use borrow.Author.Rules.{rules}
+use Rattle.noise.specs.Nodes.{nodes_of}
+use Rattle.noise.specs.Line.{noise_of}
+use Rattle.noise.proofs.Walk.{answer_from, no_nodes, first_reaches, first_passed, next_reaches, next_passed, all_passed}
+use Rattle.noise.proofs.noise_along.Goals as goal
+
+pub returns-then-count-eq0 : goal.returns-then-count-eq0
+returns-then-count-eq0 c = no_nodes _ _ _ c.if-count-eq0.true
+
+pub returns-then-x-first : goal.returns-then-x-first
+returns-then-x-first c =
+    let first = c.node_at-first.ensures in
+    c.stored_at.ensures ∙ first_reaches _ _ _ (omega arith) (rw first at c.if-x-first.true)
+
+pub loop-k-init : goal.loop-k-init
+loop-k-init c =
+    let first = c.node_at-first.ensures in
+    (search rules, omega arith, first_passed _ _ _ (omega arith) (rw first at c.if-x-first.false))
+
+pub returns-then-x-hi : goal.returns-then-x-hi
+returns-then-x-hi c =
+    let hi = c.node_at-hi.ensures in
+    c.noise_between.ensures
+    ∙ rw (c.node_at-lo.ensures, hi) (sym (c.loop-k.invariant.2 ∙ next_reaches _ _ _ c.loop-k.k c.loop-k-test.true (rw hi at c.if-x-hi.true)))
+
+pub loop-k-preserved : goal.loop-k-preserved
+loop-k-preserved c =
+    let hi = c.node_at-hi.ensures in
+    (search rules, search rules, c.loop-k.invariant.2 ∙ next_passed _ _ _ c.loop-k.k c.loop-k-test.true (rw hi at c.if-x-hi.false))
+
+pub returns : goal.returns
+returns c =
+    c.stored_at-2.ensures ∙ sym (c.loop-k.invariant.2 ∙ all_passed _ _ _ c.loop-k.k c.loop-k-test.false)

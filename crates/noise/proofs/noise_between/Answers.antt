@@ -1,0 +1,8 @@
+-- `noise::noise_between` meets its contract.
+use Rattle.noise.specs.Line.{between}
+use borrow.Author.Rules.{rules}
+use Rattle.noise.proofs.noise_between.Goals as goal
+
+pub returns : goal.returns
+unfolding between
+returns c = cc

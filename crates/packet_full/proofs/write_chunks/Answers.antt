@@ -1,0 +1,84 @@
+-- The invariant is `Writing`, and a turn writes one chunk.
+use mathlib.Core.Path.{◌≡◌, refl}
+use Prim.Native.Nat.{◌-◌}
+use native.Mathlib.Omega.{arith}
+use Rattle.parser.specs.Parser.{parse, repeat}
+use Rattle.packet_profile.specs.Profile.{chunk}
+use Rattle.packet_full.specs.Internal.{list_of, chunk_list}
+use Rattle.packet_full.proofs.Writing.{Writing, writing_none, signals_size, written_all, head_there, values_there, fits, turn_by}
+use borrow.Author.Rules.{rules}
+use Rattle.packet_full.proofs.write_chunks.Goals as goal
+
+pub loop-i-init : goal.loop-i-init
+unfolding chunk_list
+loop-i-init c =
+    let a = c.args in
+    let p = c.requires in
+    writing_none _ _ a.run.now _ _ _ _ _ _ p.parsing.end p.parsing.there p.in_bins p.in_counts p.in_fudges (omega (arith, p.in_signal, p.parsing.values, signals_size (chunk_list a.p a.run.now)))
+
+pub overflow_add-at : goal.overflow_add-at
+overflow_add-at c = omega (arith, head_there c.loop-i.invariant (omega (arith, c.loop-i-test.true)) _ refl, c.head_size-head.ensures)
+
+pub bounds-bins-i : goal.bounds-bins-i
+bounds-bins-i c = omega (arith, c.loop-i.invariant.bins.same, c.loop-i.invariant.in-bins, c.loop-i-test.true)
+
+pub bounds-counts-i : goal.bounds-counts-i
+bounds-counts-i c = omega (arith, c.loop-i.invariant.counts.same, c.loop-i.invariant.in-counts, c.loop-i-test.true)
+
+pub bounds-fudges-i : goal.bounds-fudges-i
+bounds-fudges-i c = omega (arith, c.loop-i.invariant.fudges.same, c.loop-i.invariant.in-fudges, c.loop-i-test.true)
+
+pub overflow_add-at-in-loop-i : goal.overflow_add-at-in-loop-i
+overflow_add-at-in-loop-i c = omega (arith, head_there c.loop-i.invariant (omega (arith, c.loop-i-test.true)) _ refl, c.head_size-head.ensures)
+
+pub offset_bounds-signal-written : goal.offset_bounds-signal-written
+offset_bounds-signal-written c =
+    let w = c.loop-i.invariant in
+    omega (arith, fits w (omega (arith, c.loop-i-test.true)) c.u32_at-n.result c.u32_at-n.ensures, w.same)
+
+pub slice_bounds-copy_u32s-count : goal.slice_bounds-copy_u32s-count
+slice_bounds-copy_u32s-count c =
+    let w = c.loop-i.invariant in
+    omega (arith, fits w (omega (arith, c.loop-i-test.true)) c.u32_at-n.result c.u32_at-n.ensures, w.same)
+
+pub slice_bounds-copy_u32s-start : goal.slice_bounds-copy_u32s-start
+slice_bounds-copy_u32s-start c =
+    let w = c.loop-i.invariant in
+    omega (arith, fits w (omega (arith, c.loop-i-test.true)) c.u32_at-n.result c.u32_at-n.ensures, w.same)
+
+pub overflow_add-written : goal.overflow_add-written
+overflow_add-written c =
+    let w = c.loop-i.invariant in
+    omega (arith, fits w (omega (arith, c.loop-i-test.true)) c.u32_at-n.result c.u32_at-n.ensures, w.same, c.well-formed.1.1.1.1.1)
+
+pub overflow_add-at-in-loop-i-2 : goal.overflow_add-at-in-loop-i-2
+overflow_add-at-in-loop-i-2 c =
+    let w = c.loop-i.invariant in
+    omega (arith, head_there w (omega (arith, c.loop-i-test.true)) c.u32_at-n.result c.u32_at-n.ensures, c.head_size-head.ensures)
+
+pub overflow_add-at-in-loop-i-3 : goal.overflow_add-at-in-loop-i-3
+overflow_add-at-in-loop-i-3 c =
+    let w = c.loop-i.invariant in
+    omega (arith, head_there w (omega (arith, c.loop-i-test.true)) c.u32_at-n.result c.u32_at-n.ensures, values_there w (omega (arith, c.loop-i-test.true)) c.u32_at-n.result c.u32_at-n.ensures, c.head_size-head.ensures.value)
+
+pub loop-i-preserved : goal.loop-i-preserved
+loop-i-preserved c =
+    turn_by c.loop-i.invariant (omega (arith, c.loop-i-test.true)) c.u32_at-n.result c.u32_at-n.ensures c.u32_at.ensures refl c.fudge_at.ensures c.head_size-head.ensures.value _ c.copy_u32s.ensures.stands refl
+
+pub shape_of-bins : goal.shape_of-bins
+shape_of-bins c = c.loop-i.invariant.bins.same
+
+pub shape_of-counts : goal.shape_of-counts
+shape_of-counts c = c.loop-i.invariant.counts.same
+
+pub shape_of-fudges : goal.shape_of-fudges
+shape_of-fudges c = c.loop-i.invariant.fudges.same
+
+pub shape_of-signal : goal.shape_of-signal
+shape_of-signal c = c.loop-i.invariant.same
+
+pub returns : goal.returns
+unfolding chunk_list
+returns c =
+    let all : c.loop-i.i ≡ c.args.p.peak_count = omega arith in
+    written_all c.loop-i.invariant all

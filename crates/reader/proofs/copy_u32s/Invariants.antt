@@ -1,0 +1,14 @@
+-- The invariant is `Copying`, for numbers of four bytes.
+use Prim.Native.Nat.{◌-◌}
+use native.Mathlib.Omega.{arith}
+use Rattle.lists.proofs.Laws.{fill_none, fill_done, length-each}
+use Rattle.lists.proofs.Left.{list_no_room, list_written}
+use Rattle.reader.proofs.Copies.{Copying, copying_more}
+use borrow.Author.Rules.{rules}
+use Rattle.reader.proofs.copy_u32s.Given as goal
+
+abbrev pub invariant-loop-i : goal.invariant-loop-i
+invariant-loop-i l = Copying 4 l.run l.at l.stride l.n l.initial.out l.out l.place l.i
+
+abbrev pub decreases-loop-i : goal.decreases-loop-i
+decreases-loop-i l = l.n - l.i

@@ -1,0 +1,20 @@
+-- `scan_index::fields` meets its contract: each field is the number at its place, and `cc` joins the eleven fields with the calls.
+use borrow.Author.Tests.{le-leb, lt-leb}
+use native.Mathlib.Nat.{add-zero}
+use mathlib.Core.Logic.{⊎_elim}
+use lib.Dec.{leb}
+use Rattle.scan_index.specs.Entry.{layout}
+use Rattle.scan_index.proofs.Size.{value_long}
+use borrow.Author.Rules.{rules}
+use Rattle.scan_index.proofs.fields.Goals as goal
+
+pub returns : goal.returns
+unfolding layout
+returns c =
+    let a = c.args in
+    let s = a.run.now in
+    rw (value_long (leb 64 a.version) (leb 66 a.version) s a.at)
+    (⊎_elim
+    (λ w. rw (le-leb 64 a.version w.0.taken) (cc (w.2, w.1.ensures)))
+    (λ w. rw (lt-leb 64 a.version w.0.left) (cc (w.2, w.1.ensures, add-zero a.at)))
+    c.if-version-ge64.branch)

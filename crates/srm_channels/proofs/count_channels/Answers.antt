@@ -1,0 +1,31 @@
+-- `srm_channels::count_channels` meets its contract. The invariant: `count` places below i hold a channel.
+use mathlib.Core.Path.{sym, ◌∙◌}
+use mathlib.Core.Logic.{⊎_elim}
+use Prim.Native.Nat.{◌-◌, ◌≤◌}
+use native.Mathlib.Omega.{arith}
+use Rattle.srm_channels.specs.Channels.{channel_test, channel_at, channels_in}
+use Rattle.srm_channels.proofs.Turns.{Counted, count_none, count_in, count_out, count_done}
+use borrow.Author.Rules.{rules}
+use Rattle.srm_channels.proofs.count_channels.Goals as goal
+
+pub loop-i-init : goal.loop-i-init
+loop-i-init c = (count_none _ _ _, search rules)
+
+pub is_channel-requires : goal.is_channel-requires
+is_channel-requires c = (omega (arith, c.loop-i.invariant.0.started), omega arith)
+
+pub overflow_add-count : goal.overflow_add-count
+overflow_add-count c = omega (arith, c.loop-i.invariant.0.within)
+
+pub loop-i-preserved : goal.loop-i-preserved
+loop-i-preserved c =
+    let inv = c.loop-i.invariant.0 in
+    ⊎_elim
+    (λ w. (rw w.1 (count_in _ _ _ _ _ (sym c.is_channel.ensures ∙ w.0.taken) inv), omega (arith, inv.started)))
+    (λ w. (rw w.1 (count_out _ _ _ _ _ (sym c.is_channel.ensures ∙ w.0.left) inv), omega (arith, inv.started)))
+    c.if-is_channel.branch
+
+pub returns : goal.returns
+unfolding channels_in
+returns c =
+    count_done _ _ _ _ _ _ c.loop-i.invariant.0 (omega arith)

@@ -1,0 +1,17 @@
+-- `srm_scan::write_windows` meets its contract: the room is tested, and then both ends are copied.
+use mathlib.Core.Path.{sym, ◌∙◌}
+use Rattle.lists.proofs.Left.{pairs_no_room, pairs_written}
+use Rattle.srm_scan.proofs.Room.{length-windows, low_column, high_column}
+use borrow.Author.Rules.{rules}
+use Rattle.srm_scan.proofs.write_windows.Goals as goal
+
+pub returns-then-holds : goal.returns-then-holds
+returns-then-holds c =
+    let room = sym (rw c.holds.ensures at c.holds-2.ensures) ∙ c.if-holds.true in
+    pairs_written _ (length-windows _ _ _) _ _ room
+    (low_column _ _ _ _ _ c.copy_u32s.ensures.stands)
+    (high_column _ _ _ _ _ c.copy_u32s-then-holds.ensures.stands)
+
+pub returns : goal.returns
+returns c =
+    pairs_no_room _ (length-windows _ _ _) _ _ (sym (rw c.holds.ensures at c.holds-2.ensures) ∙ c.if-holds.false)

@@ -1,0 +1,25 @@
+-- `srm_transition::flatv66_event_transition` meets its contract. The invariant: no place before i passed, so the search goes on from i.
+use mathlib.Core.Path.{◌≡◌, refl, sym, ◌∙◌}
+use Prim.Native.Nat.{◌-◌, ◌≤◌}
+use native.Mathlib.Omega.{arith}
+use lib.ListN.{length}
+use Rattle.srm_transition.specs.Transition.{event_test, event_transition_at, flatv66_event_transition}
+use Rattle.srm_transition.specs.declared.EventTransitionAnswer.TheVariants.{None, Found}
+use Rattle.srm_transition.proofs.Places.{first, first_here, first_later, first_none}
+use borrow.Author.Rules.{rules}
+use Rattle.srm_transition.proofs.flatv66_event_transition.Goals as goal
+
+pub loop-i-init : goal.loop-i-init
+unfolding flatv66_event_transition
+loop-i-init c = (search rules, refl)
+
+pub returns-then-event_test : goal.returns-then-event_test
+returns-then-event_test c =
+    rw c.u64_at.ensures (sym (c.loop-i.invariant.1 ∙ first_here _ _ _ _ _ (omega arith) (sym c.event_test.ensures ∙ c.if-event_test.true)))
+
+pub loop-i-preserved : goal.loop-i-preserved
+loop-i-preserved c =
+    (search rules, c.loop-i.invariant.1 ∙ first_later _ _ _ _ _ (omega arith) (sym c.event_test.ensures ∙ c.if-event_test.false))
+
+pub returns : goal.returns
+returns c = sym (c.loop-i.invariant.1 ∙ first_none _ _ _ _ _ (omega arith))

@@ -1,0 +1,6 @@
+use lib.Seq.{take-length}
+use borrow.Author.Rules.{rules}
+use Rattle.text.proofs.write.Goals as goal
+
+pub returns : goal.returns
+returns c = rw take-length at c.copy_bytes.ensures

@@ -1,0 +1,15 @@
+-- The header, and then the number.
+use mathlib.Core.Path.{sym, ap, ◌∙◌}
+use Rattle.tray_header.specs.Header.{outcome_of}
+use Rattle.tray.proofs.Headers.{no_header, no_scan, has_scan}
+use borrow.Author.Rules.{rules}
+use Rattle.tray.proofs.header_with.Goals as goal
+
+pub returns-then-k-h : goal.returns-then-k-h
+returns-then-k-h c = has_scan 4096 6 c.args.tray.now _ (sym (ap outcome_of c.in-Header.is) ∙ c.read_tray_header.ensures) c.if-k-h.true
+
+pub returns-in-Refused : goal.returns-in-Refused
+returns-in-Refused c = no_header 4096 6 c.args.tray.now _ (sym (ap outcome_of c.in-Refused.is) ∙ c.read_tray_header.ensures)
+
+pub returns-else-k-h : goal.returns-else-k-h
+returns-else-k-h c = no_scan 4096 6 c.args.tray.now _ (sym (ap outcome_of c.in-Header.is) ∙ c.read_tray_header.ensures) c.if-k-h.false

@@ -1,0 +1,25 @@
+-- `tray_header::read_tray_header` meets its contract: each way out is decided by the tests that led there.
+use native.Mathlib.Omega.{arith}
+use borrow.Author.Tests.{le-leb, lt-leb}
+use Rattle.tray_header.specs.Header.{judged}
+use Rattle.tray_header.proofs.Answers.{short_header, whole_header}
+use borrow.Author.Rules.{rules}
+use Rattle.tray_header.proofs.read_tray_header.Goals as goal
+
+pub returns-then-remaining-lt32 : goal.returns-then-remaining-lt32
+returns-then-remaining-lt32 c = short_header _ (omega arith)
+
+pub returns-then-h-gt1 : goal.returns-then-h-gt1
+unfolding judged
+returns-then-h-gt1 c =
+    whole_header c.args.tray.now (omega arith) c.fields-h.ensures (rw (lt-leb _ _ c.if-h-gt1.true))
+
+pub returns-then-h-gt4096 : goal.returns-then-h-gt4096
+unfolding judged
+returns-then-h-gt4096 c =
+    whole_header c.args.tray.now (omega arith) c.fields-h.ensures (rw (le-leb _ _ c.if-h-gt1.false, lt-leb _ _ c.if-h-gt4096.true))
+
+pub returns : goal.returns
+unfolding judged
+returns c =
+    whole_header c.args.tray.now (omega arith) c.fields-h.ensures (rw (le-leb _ _ c.if-h-gt1.false, le-leb _ _ c.if-h-gt4096.false))
