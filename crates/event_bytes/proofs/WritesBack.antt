@@ -217,7 +217,7 @@ module _ (version : ℕ) (low : version < 66) (run : List ℕ) (is_bytes : Bytes
       }
 
   held_by : (s : Stood) (u : EventAndNext) → u ≡ answer_of s.event s.next → held_before_66 version u.event p q ≡ true
-  held_by s u e = rw e (is_held version low s.event s.placed s.stands.held x₀ x₁ x₂ x₃ p q r c s.in-preamble s.in-precursors s.in-energies s.in-coefficients)
+  held_by s u e = rw e (is_held version low s.event s.placed s.stands.held x₀ x₁ x₂ x₃ p q r c s.in_preamble s.in_precursors s.in_energies s.in_coefficients)
 
   -- An event that was read is never refused 10, whatever its skipped words are
   pub event_held : held_before_66 version v.event p q ≡ true
@@ -234,4 +234,4 @@ module _ (version : ℕ) (low : version < 66) (run : List ℕ) (is_bytes : Bytes
           let next : v.next ≡ s.next = ap (λ (x : EventAndNext). x.next) s.answer in
           let size : length (written (layout_before_66 version) s.event) ≤ room = rw same (simp (length-take, length-drop) (omega (arith, next))) in
           by_answer version s.event s.next at room run p q r c v s.answer
-          (writes version low s.event s.placed s.stands.held x₀ x₁ x₂ x₃ p q r c s.in-preamble s.in-precursors s.in-energies s.in-coefficients room size ∙ ap ok same)
+          (writes version low s.event s.placed s.stands.held x₀ x₁ x₂ x₃ p q r c s.in_preamble s.in_precursors s.in_energies s.in_coefficients room size ∙ ap ok same)

@@ -87,17 +87,17 @@ module _ (body : List ℕ) (from : ℕ) (ps es : List ℕ) where
       → Written (set P count (word_at body (from + i * 32) 8)) (set E count (word_at body (from + i * 32 + 16) 8)) (i + 1)
   write_in P E count i h k p e inv =
       record {
-        precursors_written = rw (kept_in body from i h) (column_store (λ r. r.0) (kept body from i) (reaction_at body (from + i * 32)) ps P count inv.precursors-written k p);
-        energies_written = rw (kept_in body from i h) (column_store (λ r. r.1) (kept body from i) (reaction_at body (from + i * 32)) es E count inv.energies-written k e);
-        same_precursors = simp length-set inv.same-precursors;
-        same_energies = simp length-set inv.same-energies;
+        precursors_written = rw (kept_in body from i h) (column_store (λ r. r.0) (kept body from i) (reaction_at body (from + i * 32)) ps P count inv.precursors_written k p);
+        energies_written = rw (kept_in body from i h) (column_store (λ r. r.1) (kept body from i) (reaction_at body (from + i * 32)) es E count inv.energies_written k e);
+        same_precursors = simp length-set inv.same_precursors;
+        same_energies = simp length-set inv.same_energies;
       }
 
   pub write_out : (P E : List ℕ) (i : ℕ) → acceptable (word_at body (from + i * 32) 8) ≡ false → Written P E i → Written P E (i + 1)
   write_out P E i h inv =
       record {
-        precursors_written = rw (kept_out body from i h) inv.precursors-written;
-        energies_written = rw (kept_out body from i h) inv.energies-written;
-        same_precursors = inv.same-precursors;
-        same_energies = inv.same-energies;
+        precursors_written = rw (kept_out body from i h) inv.precursors_written;
+        energies_written = rw (kept_out body from i h) inv.energies_written;
+        same_precursors = inv.same_precursors;
+        same_energies = inv.same_energies;
       }

@@ -51,8 +51,8 @@ module _ (format : ScanDataFormat) (mz intensity : List Float) (d : Float) where
           count = rw (one, length-append) (ap (λ (k : ℕ). k + 1) inv.count);
           masses = rw (one, map-append) (store_at (firsts (listed_to i)) mz X kept _ _ inv.masses (length-map (listed_to i) _ ∙ sym inv.count) next_mass (omega (arith, inv.within)));
           intensities = rw (one, map-append) (store_at (seconds (listed_to i)) intensity Y kept _ _ inv.intensities (length-map (listed_to i) _ ∙ sym inv.count) next_intensity (omega (arith, inv.within)));
-          same_masses = simp length-set inv.same-masses;
-          same_intensities = simp length-set inv.same-intensities;
+          same_masses = simp length-set inv.same_masses;
+          same_intensities = simp length-set inv.same_intensities;
           within = omega (arith, inv.within);
         }
 
@@ -63,8 +63,8 @@ module _ (format : ScanDataFormat) (mz intensity : List Float) (d : Float) where
           count = rw none inv.count;
           masses = rw none inv.masses;
           intensities = rw none inv.intensities;
-          same_masses = inv.same-masses;
-          same_intensities = inv.same-intensities;
+          same_masses = inv.same_masses;
+          same_intensities = inv.same_intensities;
           within = omega (arith, inv.within);
         }
 

@@ -101,10 +101,10 @@ module _ {count : ℕ} {fudged : Bool} {s : List ℕ} {all : List Chunk} {b c f 
       this = whole_chunk fudged s at n e first.here
 
       pub head_there : head_size fudged ≤ remaining s at
-      head_there = this.head-there
+      head_there = this.head_there
 
       pub values_there : n * 4 ≤ remaining s (at + head_size fudged)
-      values_there = this.values-there
+      values_there = this.values_there
 
       long : points first.first ≡ n
       long = ap points this.is ∙ length-each _ n

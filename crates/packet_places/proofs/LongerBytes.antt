@@ -63,4 +63,4 @@ module _ (at : ℕ) where
   places_completes = single_completes 4 at packet (λ p _. ok (packet_places at p, p.contents)) packet_bounded (λ _ _. tt)
 
   pub places_longer : OnLongerBytes outcome_of_packet_places (λ s r (_ : Unit {0}). on_ok (λ v. (v, contents_at s v)) (outcome_of_packet_places r) ≡ find_places at s) (λ q. q ≡ 4) (λ _ _. at < 2 ^ 62)
-  places_longer = labels.standing-longer outcome_of_packet_places places_answer_one contents_at (find_places at) places_prefix 4 at places_names places_completes
+  places_longer = labels.standing_longer outcome_of_packet_places places_answer_one contents_at (find_places at) places_prefix 4 at places_names places_completes

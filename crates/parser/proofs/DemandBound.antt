@@ -26,7 +26,7 @@ module _ {A : Type 0} (far : ℕ) where
   demand_known n p P Q a y = record { bounded = a.bounded; zeros = a.zeros; value_invariant = y }
 
   pub demand_more : (n most : ℕ) (p : Parser A) (P : A → Type 0) → n ≤ most → DemandBound far n P p → DemandBound far most P p
-  demand_more n most p P h a = record { bounded = bounded_more far n most p h a.bounded; zeros = omega (arith, a.zeros); value_invariant = a.value-invariant }
+  demand_more n most p P h a = record { bounded = bounded_more far n most p h a.bounded; zeros = omega (arith, a.zeros); value_invariant = a.value_invariant }
 
   -- nothing, or p
   pub demand_cond : (n : ℕ) (b : Bool) (P : A → Type 0) (p q : Parser A) → DemandBound far n P p → DemandBound far n P q → DemandBound far n P (cond b p q)
@@ -37,7 +37,7 @@ module _ {A : Type 0} (far : ℕ) where
   demand_done n P a h = record { bounded = tt; zeros = omega arith; value_invariant = h }
 
   pub demand_ahead : (n m : ℕ) (P : A → Type 0) (p : Parser A) → m ≤ n → DemandBound far n P p → DemandBound far n P (ahead m p)
-  demand_ahead n m P p h a = record { bounded = (h, a.bounded); zeros = omega (arith, a.zeros); value_invariant = a.value-invariant }
+  demand_ahead n m P p h a = record { bounded = (h, a.bounded); zeros = omega (arith, a.zeros); value_invariant = a.value_invariant }
 
   -- n records, of which each takes so many bytes of zeros
   pub demand_repeat : (more each n : ℕ) (p : Parser A) (P : A → Type 0) → DemandBound far more P p → extent p ≤ each → DemandBound far (more + n * each) Any (repeat n p)
@@ -56,7 +56,7 @@ pub demand_bind : {A B : Type 0} (far n m : ℕ) (P : A → Type 0) (Q : B → T
     → (p : Parser A) → DemandBound far n P p → DemandBound far (n + m) Q (p >>= f)
 demand_bind far n m P Q f h p a =
     record {
-      bounded = bounded_bind P f far n m (λ v y. (h v y).zeros) (λ v y. bounded_more far m (n + m) (f v) (omega arith) (h v y).bounded) p a.value-invariant a.bounded;
-      zeros = omega (arith, extent_bind_le P f far n m (λ v y. (h v y).zeros) p a.value-invariant, a.zeros);
-      value_invariant = invariant_bind P Q f (λ v y. (h v y).value-invariant) p a.value-invariant;
+      bounded = bounded_bind P f far n m (λ v y. (h v y).zeros) (λ v y. bounded_more far m (n + m) (f v) (omega arith) (h v y).bounded) p a.value_invariant a.bounded;
+      zeros = omega (arith, extent_bind_le P f far n m (λ v y. (h v y).zeros) p a.value_invariant, a.zeros);
+      value_invariant = invariant_bind P Q f (λ v y. (h v y).value_invariant) p a.value_invariant;
     }

@@ -56,7 +56,7 @@ packet_content : (s : List ℕ) (at : ℕ) {v : PacketPlaces} (t : Standing s at
 packet_content s at {v} t =
     ap (λ p. content_at (packet_data p v) s) t.is
     ∙ content_is s at t.header t.profile t.next t.profile-there v
-    ∙ rw (t.stands.profile-is, ← t.stands.contents)
+    ∙ rw (t.stands.profile_is, ← t.stands.contents)
 
 -- ---- any data
 module _ (place offset size : ℕ) (s : List ℕ) where
@@ -112,8 +112,8 @@ module _ {A : Type 0} (follow : Content → Outcome A) (place offset size : ℕ)
       sym (made_part 4 (data_start place offset) packet (λ p. given (content_of p.profile p.contents.peaks)) (λ f _. of_finding follow f) (λ p _. follow (content_of p.profile p.contents.peaks)) (λ _ _. refl) s
       ∙ rw (r.there, r.one, r.part))
   data_refused FlatV63 e =
-      flat.then-refused (λ ps. follow (centroids ps)) place offset size s (refused_of (narrow_peaks 8) (find_flat_peaks place offset size s) e)
+      flat.then_refused (λ ps. follow (centroids ps)) place offset size s (refused_of (narrow_peaks 8) (find_flat_peaks place offset size s) e)
       ∙ sym (made_part 4 (data_start place offset) (flat_peaks (data_start place offset) offset size) of_attempt (λ f _. of_finding follow f) _ (λ a _. after_attempt a) s)
   data_refused FlatV66 e =
-      srm.then-refused (λ ps. follow (centroids ps)) place offset s (refused_of (narrow_peaks 12) (find_srm_peaks place offset s) e)
+      srm.then_refused (λ ps. follow (centroids ps)) place offset s (refused_of (narrow_peaks 12) (find_srm_peaks place offset s) e)
       ∙ sym (made_part 4 (data_start place offset) (scan peaks) (λ ps. given (centroids ps)) (λ f _. of_finding follow f) _ (λ _ _. refl) s)

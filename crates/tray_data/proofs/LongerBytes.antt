@@ -29,21 +29,21 @@ module _ (place offset size : ℕ) where
   pub data_prefix : (format : ScanDataFormat) → PrefixProperty (find_data format place offset size)
   unfolding find_data
   data_prefix PacketHeader = on_ok_prefix (λ (v : PacketPlaces × Contents). packet_data v.0.profile v.0) (find_places (data_start place offset)) (places_prefix (data_start place offset))
-  data_prefix FlatV63 = on_ok_prefix (narrow_peaks 8) (find_flat_peaks place offset size) (flat.find-prefix place offset size)
-  data_prefix FlatV66 = on_ok_prefix (narrow_peaks 12) (find_srm_peaks place offset) (srm.find-prefix place offset)
+  data_prefix FlatV63 = on_ok_prefix (narrow_peaks 8) (find_flat_peaks place offset size) (flat.find_prefix place offset size)
+  data_prefix FlatV66 = on_ok_prefix (narrow_peaks 12) (find_srm_peaks place offset) (srm.find_prefix place offset)
 
   pub data_completes : size < 2 ^ 32 → (format : ScanDataFormat) → Completes 4 (data_start place offset) (find_data format place offset size)
   unfolding find_data
   data_completes h PacketHeader =
       on_ok_completes (λ (v : PacketPlaces × Contents). packet_data v.0.profile v.0) (find_places (data_start place offset)) 4 (data_start place offset) (places_completes (data_start place offset))
-  data_completes h FlatV63 = on_ok_completes (narrow_peaks 8) (find_flat_peaks place offset size) 4 (data_start place offset) (flat.find-completes place offset size h)
-  data_completes h FlatV66 = on_ok_completes (narrow_peaks 12) (find_srm_peaks place offset) 4 (data_start place offset) (srm.find-completes place offset)
+  data_completes h FlatV63 = on_ok_completes (narrow_peaks 8) (find_flat_peaks place offset size) 4 (data_start place offset) (flat.find_completes place offset size h)
+  data_completes h FlatV66 = on_ok_completes (narrow_peaks 12) (find_srm_peaks place offset) 4 (data_start place offset) (srm.find_completes place offset)
 
   pub data_names : (format : ScanDataFormat) → Names (λ q. q ≡ 4) (find_data format place offset size)
   unfolding find_data
   data_names PacketHeader s part h = places_names (data_start place offset) s part (on_ok_out (λ (v : PacketPlaces × Contents). packet_data v.0.profile v.0) (find_places (data_start place offset) s) h)
-  data_names FlatV63 s part h = flat.find-names place offset size s part (on_ok_out (narrow_peaks 8) (find_flat_peaks place offset size s) h)
-  data_names FlatV66 s part h = srm.find-names place offset s part (on_ok_out (narrow_peaks 12) (find_srm_peaks place offset s) h)
+  data_names FlatV63 s part h = flat.find_names place offset size s part (on_ok_out (narrow_peaks 8) (find_flat_peaks place offset size s) h)
+  data_names FlatV66 s part h = srm.find_names place offset s part (on_ok_out (narrow_peaks 12) (find_srm_peaks place offset s) h)
 
   pub data_longer : size < 2 ^ 32 → (format : ScanDataFormat)
       → OnLongerBytes outcome_of (λ s r (_ : Unit {0}). outcome_of r ≡ find_data format place offset size s) (λ q. q ≡ 4) (λ _ _. data_start place offset < 2 ^ 62)

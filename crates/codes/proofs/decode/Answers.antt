@@ -11,11 +11,11 @@ unfolding code_of
 returns-then-value-highest c =
     let a = c.args in
     let e = entries a.family c.index-i.ensures.0 in
-    simp (le-leb a.value (highest a.family) (omega (arith, e.highest-is)))
+    simp (le-leb a.value (highest a.family) (omega (arith, e.highest_is)))
 
 pub returns-else-value-highest : goal.returns-else-value-highest
 unfolding code_of
 returns-else-value-highest c =
     let a = c.args in
     let e = entries a.family c.index-i.ensures.0 in
-    simp (lt-leb a.value (highest a.family) (omega (arith, e.highest-is)))
+    simp (lt-leb a.value (highest a.family) (omega (arith, e.highest_is)))

@@ -23,7 +23,7 @@ overflow_add-result c = omega (arith, (its (goal.at.overflow_add-result c).After
 pub returns-then-code-i : goal.returns-then-code-i
 returns-then-code-i c =
     let e = its (goal.at.returns-then-code-i c).After-index-i in
-    (omega (arith, e.within), agree _ _ _ e.rows_are c.args.code (omega (arith, e.count-is)))
+    (omega (arith, e.within), agree _ _ _ e.rows_are c.args.code (omega (arith, e.count_is)))
 
 pub returns-else-code-i : goal.returns-else-code-i
-returns-else-code-i c = (omega arith, sym (get_or-eq_default (names (of (goal.at.returns-else-code-i c).After-index-i)) [] (omega (arith, (its (goal.at.returns-else-code-i c).After-index-i).count-is))))
+returns-else-code-i c = (omega arith, sym (get_or-eq_default (names (of (goal.at.returns-else-code-i c).After-index-i)) [] (omega (arith, (its (goal.at.returns-else-code-i c).After-index-i).count_is))))

@@ -23,10 +23,10 @@ module _ (a : After-acceptable) (taken : c.acceptable.result ≡ true) where
       (kept_room x.body.now x.from c.loop-i.i x.n (sym (rw c.u64_at-precursor.ensures at c.acceptable.ensures) ∙ taken) c.loop-i-test.true)
 
 pub bounds-precursors-k : goal.bounds-precursors-k
-bounds-precursors-k c = omega (arith, next_fits (goal.at.bounds-precursors-k c).After-acceptable c.if-acceptable.true, c.loop-i.invariant.1.same-precursors)
+bounds-precursors-k c = omega (arith, next_fits (goal.at.bounds-precursors-k c).After-acceptable c.if-acceptable.true, c.loop-i.invariant.1.same_precursors)
 
 pub bounds-energies-k : goal.bounds-energies-k
-bounds-energies-k c = omega (arith, next_fits (goal.at.bounds-energies-k c).After-acceptable c.if-acceptable.true, c.loop-i.invariant.1.same-energies)
+bounds-energies-k c = omega (arith, next_fits (goal.at.bounds-energies-k c).After-acceptable c.if-acceptable.true, c.loop-i.invariant.1.same_energies)
 
 pub loop-i-preserved : goal.loop-i-preserved
 loop-i-preserved c =
@@ -45,13 +45,13 @@ loop-i-preserved c =
     (rw w.3 (count_out _ _ _ _ h inv.0), rw (w.1, w.2) (write_out _ _ _ _ _ _ _ h inv.1), omega arith))
 
 pub shape_of-precursors : goal.shape_of-precursors
-shape_of-precursors c = c.loop-i.invariant.1.same-precursors
+shape_of-precursors c = c.loop-i.invariant.1.same_precursors
 
 pub shape_of-energies : goal.shape_of-energies
-shape_of-energies c = c.loop-i.invariant.1.same-energies
+shape_of-energies c = c.loop-i.invariant.1.same_energies
 
 pub returns : goal.returns
 returns c =
     let l = c.loop-i in
     let all : l.i ≡ c.args.n = omega arith in
-    record { value = rw all at l.invariant.0.counted; precursors_after = rw all at l.invariant.1.precursors-written; energies_after = rw all at l.invariant.1.energies-written }
+    record { value = rw all at l.invariant.0.counted; precursors_after = rw all at l.invariant.1.precursors_written; energies_after = rw all at l.invariant.1.energies_written }

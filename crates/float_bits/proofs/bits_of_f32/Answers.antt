@@ -1,5 +1,5 @@
 -- `float_bits::bits_of_f32` meets its contract: only `nan` differs from itself, and its pattern is the constant.
-use Rattle.std.proofs.Common.{sym, ap, ◌∙◌, rules}
+use Rattle.std.proofs.Common.{sym, ap, ◌∙◌}
 use lib.Ieee.{binary32, to_bits}
 use Rattle.float_bits.proofs.Patterns.{differs, equals_itself, to_bits-nan}
 use Rattle.float_bits.proofs.bits_of_f32.Goals as goal

@@ -1,5 +1,5 @@
 -- `float_bits::f64_of_bits` meets its contract: a NaN's pattern is read as `nan`, which 0.0 / 0.0 is too.
-use Rattle.std.proofs.Common.{sym, ◌∙◌, rules}
+use Rattle.std.proofs.Common.{sym, ◌∙◌}
 use lib.Ieee.{binary64, of_bits}
 use Rattle.float_bits.proofs.Patterns.{nan_from_is_nan, no_nan_bits, zero_by_zero}
 use Rattle.float_bits.proofs.f64_of_bits.Goals as goal

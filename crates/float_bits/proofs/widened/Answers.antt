@@ -1,5 +1,5 @@
 -- `float_bits::widened` meets its contract.
-use Rattle.std.proofs.Common.{◌∙◌, rules}
+use Rattle.std.proofs.Common.{◌∙◌}
 use Rattle.float_bits.proofs.widened.Goals as goal
 
 pub returns : goal.returns

@@ -22,7 +22,7 @@ most : (c : After-narrow_bits-size) → c.narrow_bits-size.result ≤ 0x7f80_000
 most c = subst (λ k. k ≤ 0x7f80_0000) (sym c.narrow_bits-size.ensures) (bits_most (to_bits binary64 (x c) % 2 ^ 63))
 
 result : (c : After-narrow_bits-size) → of_bits binary32 (pattern (to_bits binary64 (x c))) ≡ narrow (x c)
-result c = read_back (x c) (subst T (sym c.well-formed.0.1) tt) (equals_itself (x c) c.if-x.false)
+result c = read_back (x c) (subst T (sym c.well_formed.0.1) tt) (equals_itself (x c) c.if-x.false)
 
 pub returns-then-x : goal.returns-then-x
 unfolding narrow

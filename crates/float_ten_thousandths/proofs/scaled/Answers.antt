@@ -18,7 +18,7 @@ abbrev x : Then-x → Float
 x c = c.args.x
 
 held : (c : Then-x) → T (fits binary64 (x c))
-held c = subst T (sym c.well-formed.0.1) tt
+held c = subst T (sym c.well_formed.0.1) tt
 
 above : (c : Then-x) → T (le least (x c))
 above c = subst T (sym (ap (λ k. le k (x c)) (sym least_is) ∙ c.if-x.true)) tt

@@ -7,6 +7,7 @@ use Rattle.refusal.specs.Outcome.{ok}
 use Rattle.float_ten_thousandths.specs.TenThousandths.{ten_thousandths}
 use Rattle.float_ten_thousandths.proofs.Constants.{zero_is, limit_is}
 use Rattle.float_ten_thousandths.proofs.ten_thousandths.Goals as goal
+use Rattle.float_ten_thousandths.proofs.ten_thousandths.Goals.{else-x-via-then-x+else-x-2, else-x-via-else-x}
 
 pub scaled-requires : goal.scaled-requires
 scaled-requires c =
@@ -19,4 +20,8 @@ returns-then-x-2 c =
 
 pub returns-else-x : goal.returns-else-x
 unfolding ten_thousandths
-returns-else-x c = ⊎_elim (λ w. simp (← zero_is, ← limit_is, w.0.taken, w.1.left)) (λ w. simp (← zero_is, w.left)) c.else-x.branch
+returns-else-x c =
+    elim c.else-x.branch [
+      else-x-via-then-x+else-x-2 w ↦ simp (← zero_is, ← limit_is, w.if-x.true, w.if-x-2.false)
+    | else-x-via-else-x w ↦ simp (← zero_is, w.if-x.false)
+    ]

@@ -17,10 +17,10 @@ loop-i-init c = (keep_none _ _ _ _, omega arith)
 -- both slices have an i-th element
 module _ (c : In-loop-i) where
   in_masses : c.loop-i.i < length c.loop-i.mz
-  in_masses = omega (arith, c.loop-i-test.true, c.loop-i.invariant.0.same-masses, c.smaller-pairs.ensures)
+  in_masses = omega (arith, c.loop-i-test.true, c.loop-i.invariant.0.same_masses, c.smaller-pairs.ensures)
 
   in_intensities : c.loop-i.i < length c.loop-i.intensity
-  in_intensities = omega (arith, c.loop-i-test.true, c.loop-i.invariant.0.same-intensities, c.smaller-pairs.ensures)
+  in_intensities = omega (arith, c.loop-i-test.true, c.loop-i.invariant.0.same_intensities, c.smaller-pairs.ensures)
 
 pub bounds-mz-i : goal.bounds-mz-i
 bounds-mz-i c = in_masses (goal.at.bounds-mz-i c).In-loop-i
@@ -47,10 +47,10 @@ loop-i-preserved c =
     c.if-is_listed.branch
 
 pub shape_of-mz : goal.shape_of-mz
-shape_of-mz c = c.loop-i.invariant.0.same-masses
+shape_of-mz c = c.loop-i.invariant.0.same_masses
 
 pub shape_of-intensity : goal.shape_of-intensity
-shape_of-intensity c = c.loop-i.invariant.0.same-intensities
+shape_of-intensity c = c.loop-i.invariant.0.same_intensities
 
 pub returns : goal.returns
 returns c = keep_all _ _ _ _ c.loop-i.invariant.0 (omega (arith, c.loop-i-test.false, c.loop-i.invariant.1, c.smaller-pairs.ensures))

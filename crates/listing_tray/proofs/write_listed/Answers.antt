@@ -14,13 +14,13 @@ module _ (c : After-keep_listed-n) where
   kept = fronts c.args.format c.args.mz.now c.args.intensity.now c.keep_listed-n.ensures.value c.keep_listed-n.ensures.intensity_after
 
 pub slice_bounds-write_scan_lines-end : goal.slice_bounds-write_scan_lines-end
-slice_bounds-write_scan_lines-end c = (kept (goal.at.slice_bounds-write_scan_lines-end c).After-keep_listed-n).in-masses
+slice_bounds-write_scan_lines-end c = (kept (goal.at.slice_bounds-write_scan_lines-end c).After-keep_listed-n).in_masses
 
 pub slice_bounds-write_scan_lines-end-2 : goal.slice_bounds-write_scan_lines-end-2
 slice_bounds-write_scan_lines-end-2 c = sym (simp length-take (omega (arith, slice-reshare-prefix-write-scan-lines (goal.at.slice_bounds-write_scan_lines-end-2 c).After-intensity-1)))
 
 pub slice_bounds-write_scan_lines-end-3 : goal.slice_bounds-write_scan_lines-end-3
-slice_bounds-write_scan_lines-end-3 c = (kept (goal.at.slice_bounds-write_scan_lines-end-3 c).After-keep_listed-n).in-intensities
+slice_bounds-write_scan_lines-end-3 c = (kept (goal.at.slice_bounds-write_scan_lines-end-3 c).After-keep_listed-n).in_intensities
 
 pub slice_bounds-write_scan_lines-end-4 : goal.slice_bounds-write_scan_lines-end-4
 slice_bounds-write_scan_lines-end-4 c = sym (simp length-take (omega (arith, slice-reshare-prefix-write-scan-lines-2 (goal.at.slice_bounds-write_scan_lines-end-4 c).After-intensity-1)))

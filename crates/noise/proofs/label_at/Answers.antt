@@ -1,6 +1,5 @@
 -- `noise::label_at` meets its contract: a label for each case of the answer.
 use mathlib.Core.Path.{sym, ◌∙◌}
-use borrow.Author.Rules.{rules}
 use Rattle.noise.proofs.label_at.Goals as goal
 
 pub returns-in-None : goal.returns-in-None

@@ -1,12 +1,11 @@
 -- `noise::label_peaks` meets its contract. The invariant: the labels of the first i masses are written.
 use mathlib.Core.Path.{◌≡◌, ap}
 use mathlib.Core.Bool.{true}
-use Prim.Native.Nat.{◌-◌, ◌≤◌}
+use Prim.Native.Nat.{◌≤◌}
 use lib.ListN.{length}
-use borrow.Author.Tests.{not-true, not-false}
-use Rattle.lists.proofs.Laws.{Filling, fill_none, fill_more, fill_done}
+use Rattle.lists.proofs.Laws.{fill_none, fill_more, fill_done}
 use Rattle.noise.specs.Nodes.{nodes_of}
-use Rattle.noise.proofs.Labelling.{label_at, room_for, labels_room, labels_refused, labels_written}
+use Rattle.noise.proofs.Labelling.{room_for, labels_room, labels_refused, labels_written}
 use borrow.Author.Rules.{rules}
 use Rattle.noise.proofs.label_peaks.Goals as goal
 use Rattle.noise.proofs.label_peaks.Goals.{Else-not-holds}
@@ -15,7 +14,7 @@ has_room : (c : Else-not-holds)
     → let a = c.args in
     room_for a.mz.now (nodes_of a.nodes.now) a.flags.now a.noise.now a.baseline.now ≡ true
 has_room c =
-    rw (← c.holds.ensures, ← c.holds-2.ensures, ← c.holds-3.ensures) (not-false _ c.if-not-holds.false)
+    rw (← c.holds.ensures, ← c.holds-2.ensures, ← c.holds-3.ensures) c.if-not-holds.false
 
 room : (c : Else-not-holds)
     → let a = c.args in
@@ -27,7 +26,7 @@ room c =
 
 pub returns-then-not-holds : goal.returns-then-not-holds
 returns-then-not-holds c =
-    labels_refused _ _ _ _ _ (rw (← c.holds.ensures, ← c.holds-2.ensures, ← c.holds-3.ensures) (not-true _ c.if-not-holds.true))
+    labels_refused _ _ _ _ _ (rw (← c.holds.ensures, ← c.holds-2.ensures, ← c.holds-3.ensures) c.if-not-holds.true)
 
 pub loop-i-init : goal.loop-i-init
 loop-i-init c = (fill_none _ _ _, fill_none _ _ _, fill_none _ _ _)

@@ -1,13 +1,8 @@
 -- `noise::label_peaks` meets its contract. The invariant: the labels of the first i masses are written.
-use mathlib.Core.Path.{◌≡◌, ap}
-use mathlib.Core.Bool.{true}
-use Prim.Native.Nat.{◌-◌, ◌≤◌}
-use lib.ListN.{length}
-use borrow.Author.Tests.{not-true, not-false}
-use Rattle.lists.proofs.Laws.{Filling, fill_none, fill_more, fill_done}
+use Prim.Native.Nat.{◌-◌}
+use Rattle.lists.proofs.Laws.{Filling}
 use Rattle.noise.specs.Nodes.{nodes_of}
-use Rattle.noise.proofs.Labelling.{label_at, room_for, labels_room, labels_refused, labels_written}
-use borrow.Author.Rules.{rules}
+use Rattle.noise.proofs.Labelling.{label_at}
 use Rattle.noise.proofs.label_peaks.Given as goal
 
 abbrev pub invariant-loop-i : goal.invariant-loop-i

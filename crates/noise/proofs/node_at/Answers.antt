@@ -1,5 +1,4 @@
 -- `noise::node_at` meets its contract.
-use borrow.Author.Rules.{rules}
 use Rattle.noise.proofs.node_at.Goals as goal
 
 pub returns : goal.returns

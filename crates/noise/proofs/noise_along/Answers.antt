@@ -1,12 +1,8 @@
 -- `noise::noise_along` meets its contract. The invariant: what is left to work out is `answer_from` at the k-th node.
-use mathlib.Core.Path.{◌≡◌, sym, ◌∙◌}
-use Prim.Native.Nat.{◌≤◌, ◌-◌, ◌/◌}
+use mathlib.Core.Path.{sym, ◌∙◌}
 use native.Mathlib.Omega.{arith}
-use lib.ListN.{length}
 use borrow.Author.Rules.{rules}
-use Rattle.noise.specs.Nodes.{nodes_of}
-use Rattle.noise.specs.Line.{noise_of}
-use Rattle.noise.proofs.Walk.{answer_from, no_nodes, first_reaches, first_passed, next_reaches, next_passed, all_passed}
+use Rattle.noise.proofs.Walk.{no_nodes, first_reaches, first_passed, next_reaches, next_passed, all_passed}
 use Rattle.noise.proofs.noise_along.Goals as goal
 
 pub returns-then-count-eq0 : goal.returns-then-count-eq0

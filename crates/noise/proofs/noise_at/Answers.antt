@@ -1,6 +1,5 @@
 -- `noise::noise_at` meets its contract: a number goes along the nodes, and a NaN has no noise.
 use mathlib.Core.Path.{sym}
-use borrow.Author.Rules.{rules}
 use Rattle.noise.proofs.NanMass.{nan_none, number_as_before, differs_nan, same_number}
 use Rattle.noise.proofs.noise_at.Goals as goal
 

@@ -1,6 +1,5 @@
 -- `noise::noise_between` meets its contract.
 use Rattle.noise.specs.Line.{between}
-use borrow.Author.Rules.{rules}
 use Rattle.noise.proofs.noise_between.Goals as goal
 
 pub returns : goal.returns

@@ -1,5 +1,4 @@
 -- `noise::stored_at` meets its contract.
-use borrow.Author.Rules.{rules}
 use Rattle.noise.proofs.stored_at.Goals as goal
 
 pub returns : goal.returns

@@ -20,13 +20,13 @@ pub overflow_add-at : goal.overflow_add-at
 overflow_add-at c = omega (arith, head_there c.loop-i.invariant (omega (arith, c.loop-i-test.true)) _ refl, c.head_size-head.ensures)
 
 pub bounds-bins-i : goal.bounds-bins-i
-bounds-bins-i c = omega (arith, c.loop-i.invariant.bins.same, c.loop-i.invariant.in-bins, c.loop-i-test.true)
+bounds-bins-i c = omega (arith, c.loop-i.invariant.bins.same, c.loop-i.invariant.in_bins, c.loop-i-test.true)
 
 pub bounds-counts-i : goal.bounds-counts-i
-bounds-counts-i c = omega (arith, c.loop-i.invariant.counts.same, c.loop-i.invariant.in-counts, c.loop-i-test.true)
+bounds-counts-i c = omega (arith, c.loop-i.invariant.counts.same, c.loop-i.invariant.in_counts, c.loop-i-test.true)
 
 pub bounds-fudges-i : goal.bounds-fudges-i
-bounds-fudges-i c = omega (arith, c.loop-i.invariant.fudges.same, c.loop-i.invariant.in-fudges, c.loop-i-test.true)
+bounds-fudges-i c = omega (arith, c.loop-i.invariant.fudges.same, c.loop-i.invariant.in_fudges, c.loop-i-test.true)
 
 pub overflow_add-at-in-loop-i : goal.overflow_add-at-in-loop-i
 overflow_add-at-in-loop-i c = omega (arith, head_there c.loop-i.invariant (omega (arith, c.loop-i-test.true)) _ refl, c.head_size-head.ensures)
@@ -49,7 +49,7 @@ slice_bounds-copy_u32s-start c =
 pub overflow_add-written : goal.overflow_add-written
 overflow_add-written c =
     let w = c.loop-i.invariant in
-    omega (arith, fits w (omega (arith, c.loop-i-test.true)) c.u32_at-n.result c.u32_at-n.ensures, w.same, c.well-formed.1.1.1.1.1)
+    omega (arith, fits w (omega (arith, c.loop-i-test.true)) c.u32_at-n.result c.u32_at-n.ensures, w.same, c.well_formed.1.1.1.1.1)
 
 pub overflow_add-at-in-loop-i-2 : goal.overflow_add-at-in-loop-i-2
 overflow_add-at-in-loop-i-2 c =

@@ -31,7 +31,7 @@ chunk_there : (c : In-Signal) → There c.args.profile.fudged c.args.run.now c.l
 chunk_there c = there _ _ _ (sym (ap outcome_of_signal c.in-Signal.is) ∙ c.signal_at.ensures)
 
 pub offset_bounds-mz-n : goal.offset_bounds-mz-n
-offset_bounds-mz-n c = omega (arith, mz_within _ _ _ _ _ c.requires.run_in_bounds c.requires.run_in_bounds_2 c.loop-i.invariant, mz_size _ _ _ _ _ c.requires.run_in_bounds c.requires.run_in_bounds_2 c.loop-i.invariant, c.well-formed)
+offset_bounds-mz-n c = omega (arith, mz_within _ _ _ _ _ c.requires.run_in_bounds c.requires.run_in_bounds_2 c.loop-i.invariant, mz_size _ _ _ _ _ c.requires.run_in_bounds c.requires.run_in_bounds_2 c.loop-i.invariant, c.well_formed)
 
 pub slice_bounds-write_chunk-count : goal.slice_bounds-write_chunk-count
 slice_bounds-write_chunk-count c = omega (arith, mz_within _ _ _ _ _ c.requires.run_in_bounds c.requires.run_in_bounds_2 c.loop-i.invariant)
@@ -40,7 +40,7 @@ pub slice_bounds-write_chunk-start : goal.slice_bounds-write_chunk-start
 slice_bounds-write_chunk-start c = omega (arith, mz_within _ _ _ _ _ c.requires.run_in_bounds c.requires.run_in_bounds_2 c.loop-i.invariant)
 
 pub offset_bounds-intensity-n : goal.offset_bounds-intensity-n
-offset_bounds-intensity-n c = omega (arith, mz_within _ _ _ _ _ c.requires.run_in_bounds c.requires.run_in_bounds_2 c.loop-i.invariant, mz_size _ _ _ _ _ c.requires.run_in_bounds c.requires.run_in_bounds_2 c.loop-i.invariant, c.well-formed)
+offset_bounds-intensity-n c = omega (arith, mz_within _ _ _ _ _ c.requires.run_in_bounds c.requires.run_in_bounds_2 c.loop-i.invariant, mz_size _ _ _ _ _ c.requires.run_in_bounds c.requires.run_in_bounds_2 c.loop-i.invariant, c.well_formed)
 
 pub slice_bounds-write_chunk-count-in-loop-i : goal.slice_bounds-write_chunk-count-in-loop-i
 slice_bounds-write_chunk-count-in-loop-i c = omega (arith, intensity_within _ _ _ _ _ c.requires.run_in_bounds c.requires.run_in_bounds_2 c.loop-i.invariant)
@@ -49,7 +49,7 @@ pub slice_bounds-write_chunk-start-in-loop-i : goal.slice_bounds-write_chunk-sta
 slice_bounds-write_chunk-start-in-loop-i c = omega (arith, intensity_within _ _ _ _ _ c.requires.run_in_bounds c.requires.run_in_bounds_2 c.loop-i.invariant)
 
 pub overflow_add-n : goal.overflow_add-n
-overflow_add-n c = omega (arith, with_chunk _ _ _ _ _ c.requires.run_in_bounds c.requires.run_in_bounds_2 c.loop-i.invariant (omega (arith, c.loop-i-test.true)) (chunk_there (goal.at.overflow_add-n c).In-Signal), c.requires.run_in_bounds, c.well-formed)
+overflow_add-n c = omega (arith, with_chunk _ _ _ _ _ c.requires.run_in_bounds c.requires.run_in_bounds_2 c.loop-i.invariant (omega (arith, c.loop-i-test.true)) (chunk_there (goal.at.overflow_add-n c).In-Signal), c.requires.run_in_bounds, c.well_formed)
 
 pub overflow_add-i : goal.overflow_add-i
 overflow_add-i c = omega (arith, c.loop-i-test.true, c.struct_known-1.given)

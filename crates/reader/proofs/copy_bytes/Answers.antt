@@ -1,12 +1,10 @@
 -- The invariant: the first i bytes are written.
 use mathlib.Core.Path.{refl, ap, ◌∙◌}
-use Prim.Native.Nat.{◌+◌, ◌-◌, min}
+use Prim.Native.Nat.{min}
 use native.Mathlib.Omega.{arith}
-use lib.ListN.{get_or}
-use Rattle.lists.proofs.Laws.{Filling, fill_none, fill_more, fill_done, length-each}
+use Rattle.lists.proofs.Laws.{fill_none, fill_more, fill_done, length-each}
 use Rattle.lists.proofs.Left.{list_no_room, list_written}
 use Rattle.reader.proofs.Copies.{bytes_each}
-use borrow.Author.Rules.{rules}
 use Rattle.reader.proofs.copy_bytes.Goals as goal
 
 pub returns-then-count-out : goal.returns-then-count-out

@@ -1,10 +1,8 @@
 -- The invariant is `Copying`, for numbers of four bytes.
-use Prim.Native.Nat.{◌-◌}
 use native.Mathlib.Omega.{arith}
 use Rattle.lists.proofs.Laws.{fill_none, fill_done, length-each}
 use Rattle.lists.proofs.Left.{list_no_room, list_written}
-use Rattle.reader.proofs.Copies.{Copying, copying_more}
-use borrow.Author.Rules.{rules}
+use Rattle.reader.proofs.Copies.{copying_more}
 use Rattle.reader.proofs.copy_u32s.Goals as goal
 
 pub loop-i-preserved : goal.loop-i-preserved

@@ -2,7 +2,6 @@
 use Prim.Native.Nat.{◌+◌}
 use native.Mathlib.Omega.{arith}
 use Rattle.reader.proofs.Words.{le_split, le_one}
-use borrow.Author.Rules.{rules}
 use Rattle.reader.proofs.u16_within.Goals as goal
 
 pub overflow_cast-result : goal.overflow_cast-result

@@ -1,7 +1,6 @@
 -- `reader::u32_within` meets its contract: the number splits into two halves.
 use native.Mathlib.Omega.{arith}
 use Rattle.reader.proofs.Words.{le_split}
-use borrow.Author.Rules.{rules}
 use Rattle.reader.proofs.u32_within.Goals as goal
 
 pub returns : goal.returns

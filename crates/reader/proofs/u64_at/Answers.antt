@@ -1,7 +1,6 @@
 -- `reader::u64_at` meets its contract: the number splits into two halves, also where its bytes end.
 use native.Mathlib.Omega.{arith}
 use Rattle.reader.proofs.Words.{le_halves}
-use borrow.Author.Rules.{rules}
 use Rattle.reader.proofs.u64_at.Goals as goal
 
 pub returns : goal.returns

@@ -2,7 +2,6 @@
 use native.Mathlib.Omega.{arith}
 use mathlib.Core.Path.{sym}
 use Rattle.reader.proofs.Words.{le_one, le_none}
-use borrow.Author.Rules.{rules}
 use Rattle.reader.proofs.u8_at.Goals as goal
 
 pub returns-then-remaining-ge1 : goal.returns-then-remaining-ge1

@@ -7,6 +7,7 @@ use Rattle.scan_index.specs.Entry.{layout}
 use Rattle.scan_index.proofs.Size.{value_long}
 use borrow.Author.Rules.{rules}
 use Rattle.scan_index.proofs.fields.Goals as goal
+use Rattle.scan_index.proofs.fields.Goals.{then-version-ge64, else-version-ge64}
 
 pub returns : goal.returns
 unfolding layout
@@ -14,7 +15,7 @@ returns c =
     let a = c.args in
     let s = a.run.now in
     rw (value_long (leb 64 a.version) (leb 66 a.version) s a.at)
-    (⊎_elim
-    (λ w. rw (le-leb 64 a.version w.0.taken) (cc (w.2, w.1.ensures)))
-    (λ w. rw (lt-leb 64 a.version w.0.left) (cc (w.2, w.1.ensures, add-zero a.at)))
-    c.if-version-ge64.branch)
+    (elim c.if-version-ge64.branch [
+      then-version-ge64 w ↦ rw (le-leb 64 a.version w.if-version-ge64.true) (cc (w.offset-is, w.u64_at-offset.ensures))
+    | else-version-ge64 w ↦ rw (lt-leb 64 a.version w.if-version-ge64.false) (cc (w.offset-is, w.u32_at.ensures, add-zero a.at))
+    ])

@@ -10,6 +10,3 @@ pub returns : goal.returns
 returns c =
     let a = c.args in
     stored_fields a.entry a.out.now c.store_u32.ensures c.store_u32-2.ensures c.store_u16.ensures c.store_u16-2.ensures c.store_u64.ensures c.store_u32-3.ensures c.store_u64-2.ensures c.store_u64-3.ensures c.store_u64-4.ensures c.store_u64-5.ensures c.store_u64-6.ensures c.store_u64-7.ensures
-
-pub shape_of-out : goal.shape_of-out
-shape_of-out c = ap length (returns (goal.at.shape_of-out c).After-slice_known-13-1) ∙ simp length-sets

@@ -14,15 +14,15 @@ returns-then-absolute c =
 pub returns-then-not-in_range : goal.returns-then-not-in_range
 unfolding v63_test
 returns-then-not-in_range c =
-    simp (← is_0_002, ← is_50, ← is_3000, ← c.f64_at.ensures, ← c.absolute.ensures, c.if-absolute.false, ← c.f64_at-2.ensures, sym c.in_range.ensures ∙ not-true _ c.if-not-in_range.true)
+    simp (← is_0_002, ← is_50, ← is_3000, ← c.f64_at.ensures, ← c.absolute.ensures, c.if-absolute.false, ← c.f64_at-2.ensures, sym c.in_range.ensures ∙ c.if-not-in_range.true)
 
 pub returns-then-not-in_range-2 : goal.returns-then-not-in_range-2
 unfolding v63_test
 returns-then-not-in_range-2 c =
-    simp (← is_0_002, ← is_50, ← is_3000, ← is_0_01, ← is_10, ← c.f64_at.ensures, ← c.absolute.ensures, c.if-absolute.false, ← c.f64_at-2.ensures, sym c.in_range.ensures ∙ not-false _ c.if-not-in_range.false, ← c.f64_at-3.ensures, sym c.in_range-2.ensures ∙ not-true _ c.if-not-in_range-2.true)
+    simp (← is_0_002, ← is_50, ← is_3000, ← is_0_01, ← is_10, ← c.f64_at.ensures, ← c.absolute.ensures, c.if-absolute.false, ← c.f64_at-2.ensures, sym c.in_range.ensures ∙ c.if-not-in_range.false, ← c.f64_at-3.ensures, sym c.in_range-2.ensures ∙ c.if-not-in_range-2.true)
 
 pub returns : goal.returns
 unfolding v63_test
 returns c =
-    simp (← is_0_002, ← is_50, ← is_3000, ← is_0_01, ← is_10, ← is_0_1, ← is_300, ← c.f64_at.ensures, ← c.absolute.ensures, c.if-absolute.false, ← c.f64_at-2.ensures, sym c.in_range.ensures ∙ not-false _ c.if-not-in_range.false, ← c.f64_at-3.ensures, sym c.in_range-2.ensures ∙ not-false _ c.if-not-in_range-2.false, ← c.f64_at-4.ensures)
+    simp (← is_0_002, ← is_50, ← is_3000, ← is_0_01, ← is_10, ← is_0_1, ← is_300, ← c.f64_at.ensures, ← c.absolute.ensures, c.if-absolute.false, ← c.f64_at-2.ensures, sym c.in_range.ensures ∙ c.if-not-in_range.false, ← c.f64_at-3.ensures, sym c.in_range-2.ensures ∙ c.if-not-in_range-2.false, ← c.f64_at-4.ensures)
     c.in_range-3.ensures

@@ -1,5 +1,7 @@
 -- `Activation::from_byte` meets its contract.
 use borrow.Author.Tests.{ne_eqb}
+use Rattle.std.proofs.Common.{arith}
+use Rattle.std.proofs.lemmas.Grind.{common_steps}
 use Rattle.codes.specs.Codes.{activation_of}
 use Rattle.codes.proofs.Activation.from_byte.Goals as goal
 
@@ -17,6 +19,4 @@ returns-in-4 c = rw c.in-4.is
 
 pub returns-in_default : goal.returns-in_default
 unfolding activation_of
-returns-in_default c =
-    let rest = c.in_default.rest in
-    simp (ne_eqb c.args.b 0 rest.0.0.1, ne_eqb c.args.b 1 rest.0.1, ne_eqb c.args.b 4 rest.1)
+returns-in_default c = grind (arith, common_steps)

@@ -6,12 +6,12 @@ use Rattle.scan_format.proofs.ScanDataFormat.detect.Goals as goal
 
 pub returns-then-not-flat_peaks : goal.returns-then-not-flat_peaks
 unfolding format_of
-returns-then-not-flat_peaks c = rw (not-true c.args.flat_peaks c.if-not-flat_peaks.true)
+returns-then-not-flat_peaks c = rw c.if-not-flat_peaks.true
 
 pub returns-then-version-le63 : goal.returns-then-version-le63
 unfolding format_of
-returns-then-version-le63 c = simp (not-false c.args.flat_peaks c.if-not-flat_peaks.false, le-leb c.args.version 63 (omega arith))
+returns-then-version-le63 c = simp (c.if-not-flat_peaks.false, le-leb c.args.version 63 (omega arith))
 
 pub returns-else-version-le63 : goal.returns-else-version-le63
 unfolding format_of
-returns-else-version-le63 c = simp (not-false c.args.flat_peaks c.if-not-flat_peaks.false, lt-leb c.args.version 63 (omega arith))
+returns-else-version-le63 c = simp (c.if-not-flat_peaks.false, lt-leb c.args.version 63 (omega arith))
