@@ -1,8 +1,7 @@
 // Little-endian numbers that may be missing (bytes.rs), and a reader that refers to the run's slice (`BinaryReader`). A read or a
 // skip that passes the end is refusal 1 of the reader itself, which names no part.
-// The functions over the reader are thin: each takes the struct apart and calls functions of the slice and the place. The prover
-// does not go through a struct that holds a slice by itself, so their proofs are written by hand, and the decoder's own functions
-// take the slice and the place.
+// The functions over the reader are thin: each takes the struct apart and calls functions of the slice and the place, which the
+// decoder's own functions take.
 #![tactic(auto)]
 
 ghost use Rattle.std.specs.Prelude.{◌≡◌};
@@ -120,7 +119,7 @@ pub fn check_count_at(run: &[u8], at: u64, n: u64, size: u64) -> BytesAnswer
 }
 
 // The run's slice and a place in it.
-#[derive(Drop)]
+#[derive(Clone, Copy)]
 pub struct BinaryReader<'a> {
     pub bytes: &'a [u8],
     pub place: u64,
@@ -165,7 +164,7 @@ pub fn check_count<'a>(r: BinaryReader<'a>, n: u64, size: u64) -> BytesAnswer
     check_count_at(r.bytes, r.place, n, size)
 }
 
-// A number through a reader. Callers need no proof by hand: the parameters are plain.
+// A number through a reader, for a caller that has a slice and a place.
 pub fn word_at(run: &[u8], place: u64, size: Width) -> WordAnswer
     ensures { outcome_of result ≡ reads (parse (word (width size)) run.now place) }
 {

@@ -2,7 +2,6 @@
 use native.Mathlib.Omega.{arith}
 use native.Mathlib.Nat.{zero-mul, mul_comm, le-div_iff_mul-le, div-lt_iff_lt-mul}
 use Rattle.binary_reader.proofs.Answers.{count_there, count_short}
-use borrow.Author.Rules.{rules}
 use Rattle.binary_reader.proofs.check_count_at.Goals as goal
 
 pub returns-then-n-eq0 : goal.returns-then-n-eq0

@@ -1,7 +1,6 @@
 -- `binary_reader::place_after` meets its contract.
 use native.Mathlib.Omega.{arith}
 use Rattle.binary_reader.proofs.Answers.{after_there, after_short}
-use borrow.Author.Rules.{rules}
 use Rattle.binary_reader.proofs.place_after.Goals as goal
 
 pub returns-then-n-remaining : goal.returns-then-n-remaining

@@ -1,7 +1,6 @@
 -- `binary_reader::read_at` meets its contract.
 use native.Mathlib.Omega.{arith}
 use Rattle.binary_reader.proofs.Answers.{word_there, word_short}
-use borrow.Author.Rules.{rules}
 use Rattle.binary_reader.proofs.read_at.Goals as goal
 
 pub returns-then-bytes_of-remaining : goal.returns-then-bytes_of-remaining

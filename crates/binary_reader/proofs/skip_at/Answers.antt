@@ -1,7 +1,6 @@
 -- `binary_reader::skip_at` meets its contract.
 use native.Mathlib.Omega.{arith}
 use Rattle.binary_reader.proofs.Answers.{skip_there, skip_short}
-use borrow.Author.Rules.{rules}
 use Rattle.binary_reader.proofs.skip_at.Goals as goal
 
 pub returns-then-n-remaining : goal.returns-then-n-remaining

@@ -1,7 +1,6 @@
 -- `binary_reader::word_after` meets its contract.
 use mathlib.Core.Path.{◌∙◌}
 use Rattle.binary_reader.proofs.Answers.{after_word}
-use borrow.Author.Rules.{rules}
 use Rattle.binary_reader.proofs.word_after.Goals as goal
 
 pub returns : goal.returns
