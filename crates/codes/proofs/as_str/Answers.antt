@@ -1,5 +1,4 @@
 -- `codes::as_str` meets its contract: what `write_row` wrote is the code's name.
-use borrow.Author.Rules.{rules}
 use Rattle.codes.proofs.as_str.Goals as goal
 
 pub returns : goal.returns

@@ -3,7 +3,6 @@ use native.Mathlib.Omega.{arith}
 use borrow.Author.Tests.{le-leb, lt-leb}
 use Rattle.codes.specs.Codes.{highest, code_of}
 use Rattle.codes.proofs.Tables.{entries}
-use borrow.Author.Rules.{rules}
 use Rattle.codes.proofs.decode.Goals as goal
 
 pub returns-then-value-highest : goal.returns-then-value-highest

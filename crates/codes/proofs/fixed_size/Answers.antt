@@ -2,7 +2,6 @@
 use native.Mathlib.Omega.{arith}
 use borrow.Author.Tests.{le-leb, lt-leb}
 use Rattle.codes.specs.Codes.{size_of}
-use borrow.Author.Rules.{rules}
 use Rattle.codes.proofs.fixed_size.Goals as goal
 
 pub returns-then-value-lt12 : goal.returns-then-value-lt12

@@ -6,7 +6,6 @@ use lib.ListN.{get_or-eq_default}
 use Rattle.codes.specs.declared.Family.{Family}
 use Rattle.codes.specs.Names.{names}
 use Rattle.codes.proofs.Tables.{agree, Entries, entries}
-use borrow.Author.Rules.{rules}
 use Rattle.codes.proofs.row.Goals as goal
 use Rattle.codes.proofs.row.Goals.{After-index-i}
 

@@ -6,7 +6,6 @@ use native.Mathlib.Omega.{arith}
 use lib.ListN.{get_or, take, drop}
 use Rattle.codes.specs.Internal.{rows}
 use Rattle.codes.proofs.Tables.{table, lengths, row_is, digit_is, row_within}
-use borrow.Author.Rules.{rules}
 use Rattle.codes.proofs.write_row.Goals as goal
 
 pub digit-requires : goal.digit-requires

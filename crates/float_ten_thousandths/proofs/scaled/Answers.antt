@@ -8,7 +8,6 @@ use lib.Pow.{shr_le}
 use lib.Ieee.{Float, binary64, fits, le}
 use Rattle.float_ten_thousandths.proofs.Constants.{least, least_is}
 use Rattle.float_ten_thousandths.proofs.Scaling.{is_no_nan, field_least, field_most, scaled_is, below_least}
-use borrow.Author.Rules.{rules}
 use Rattle.float_bits.specs.Numbers.{largest_mass}
 use Rattle.float_ten_thousandths.proofs.scaled.Goals as goal
 use Rattle.float_ten_thousandths.proofs.scaled.Goals.{Then-x}

@@ -1,6 +1,5 @@
 -- `float_ten_thousandths::ten_thousandths` meets its contract.
 use mathlib.Core.Path.{sym, ap, ◌∙◌, subst}
-use mathlib.Core.Logic.{⊎_elim}
 use lib.Dec.{T}
 use lib.Ieee.{le}
 use Rattle.refusal.specs.Outcome.{ok}

@@ -1,11 +1,9 @@
 -- `scan_index::fields` meets its contract: each field is the number at its place, and `cc` joins the eleven fields with the calls.
 use borrow.Author.Tests.{le-leb, lt-leb}
 use native.Mathlib.Nat.{add-zero}
-use mathlib.Core.Logic.{⊎_elim}
 use lib.Dec.{leb}
 use Rattle.scan_index.specs.Entry.{layout}
 use Rattle.scan_index.proofs.Size.{value_long}
-use borrow.Author.Rules.{rules}
 use Rattle.scan_index.proofs.fields.Goals as goal
 use Rattle.scan_index.proofs.fields.Goals.{then-version-ge64, else-version-ge64}
 

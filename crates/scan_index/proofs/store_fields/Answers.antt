@@ -1,6 +1,5 @@
 -- `scan_index::store_fields` meets its contract, by version.
 use Rattle.scan_index.proofs.Stored.{stored_front, stored_wide, stored_long}
-use borrow.Author.Rules.{rules}
 use Rattle.scan_index.proofs.store_fields.Goals as goal
 
 pub returns-then-version-ge66 : goal.returns-then-version-ge66

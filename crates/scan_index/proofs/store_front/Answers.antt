@@ -1,9 +1,5 @@
 -- `scan_index::store_front` meets its contract: twelve stores, one behind the other.
-use mathlib.Core.Path.{ap, ◌∙◌}
-use lib.ListN.{length}
-use lib.Seq.{length-sets}
 use Rattle.scan_index.proofs.Stored.{stored_fields}
-use borrow.Author.Rules.{rules}
 use Rattle.scan_index.proofs.store_front.Goals as goal
 
 pub returns : goal.returns

@@ -1,5 +1,4 @@
 use lib.Seq.{take-length}
-use borrow.Author.Rules.{rules}
 use Rattle.text.proofs.write.Goals as goal
 
 pub returns : goal.returns

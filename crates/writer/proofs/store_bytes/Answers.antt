@@ -1,13 +1,11 @@
 -- `writer::store_bytes` meets its contract. The invariant: the first i elements are stored, and the place is that of the next.
 use mathlib.Core.Path.{ap, ◌∙◌}
-use Prim.Native.Nat.{◌-◌}
 use native.Mathlib.Omega.{arith}
 use lib.ListN.{length}
 use lib.Seq.{length-sets}
-use borrow.Author.Rules.{rules}
 use Rattle.layout.specs.Layout.{le_bytes}
 use Rattle.layout.proofs.Numbers.{length-le_bytes}
-use Rattle.writer.proofs.Loops.{Storing, storing_none, storing_more, storing_all, concat-bytes}
+use Rattle.writer.proofs.Loops.{storing_none, storing_more, storing_all, concat-bytes}
 use Rattle.writer.proofs.store_bytes.Goals as goal
 
 pub loop-i-init : goal.loop-i-init

@@ -1,7 +1,6 @@
 -- `writer::store_u16` meets its contract: the number is stored by its halves.
 use native.Mathlib.Omega.{arith}
 use Rattle.writer.proofs.Stores.{stored_halves}
-use borrow.Author.Rules.{rules}
 use Rattle.writer.proofs.store_u16.Goals as goal
 
 pub returns : goal.returns

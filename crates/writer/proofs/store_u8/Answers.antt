@@ -3,7 +3,6 @@ use mathlib.Core.Path.{sym}
 use native.Mathlib.Omega.{arith}
 use Rattle.layout.specs.Layout.{le_bytes}
 use Rattle.writer.proofs.Stores.{stored_byte, sets_out}
-use borrow.Author.Rules.{rules}
 use Rattle.writer.proofs.store_u8.Goals as goal
 
 pub returns-then-at-out : goal.returns-then-at-out

@@ -1,5 +1,4 @@
 -- `Activation::as_str` meets its contract: what `write_row` wrote is the activation's name.
-use borrow.Author.Rules.{rules}
 use Rattle.codes.proofs.Activation.as_str.Goals as goal
 
 pub returns : goal.returns

@@ -1,5 +1,4 @@
 -- `Activation::from_byte` meets its contract.
-use borrow.Author.Tests.{ne_eqb}
 use Rattle.std.proofs.Common.{arith}
 use Rattle.std.proofs.lemmas.Grind.{common_steps}
 use Rattle.codes.specs.Codes.{activation_of}

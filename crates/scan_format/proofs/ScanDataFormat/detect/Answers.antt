@@ -1,6 +1,6 @@
 -- `ScanDataFormat::detect` meets its contract.
 use native.Mathlib.Omega.{arith}
-use borrow.Author.Tests.{le-leb, lt-leb, not-true, not-false}
+use borrow.Author.Tests.{le-leb, lt-leb}
 use Rattle.scan_format.specs.Format.{format_of}
 use Rattle.scan_format.proofs.ScanDataFormat.detect.Goals as goal
 

@@ -1,5 +1,4 @@
 -- `ScanDataFormat::display_name` meets its contract: each arm writes its layout's name.
-use borrow.Author.Rules.{rules}
 use Rattle.scan_format.proofs.ScanDataFormat.display_name.Goals as goal
 
 pub returns-in-PacketHeader : goal.returns-in-PacketHeader

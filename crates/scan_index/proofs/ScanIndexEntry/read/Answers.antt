@@ -5,7 +5,6 @@ use Rattle.refusal.specs.Outcome.{ok}
 use Rattle.parser.proofs.Records.{record_short, record_whole}
 use Rattle.scan_index.specs.Entry.{entry, entry_size, read_entry}
 use Rattle.scan_index.proofs.Size.{entry_least, entry_sized}
-use borrow.Author.Rules.{rules}
 use Rattle.scan_index.proofs.ScanIndexEntry.read.Goals as goal
 
 pub fields-requires : goal.fields-requires

@@ -6,7 +6,6 @@ use Rattle.layout.specs.Layout.{written}
 use Rattle.writer.proofs.Writing.{not_held, no_room, all_written}
 use Rattle.scan_index.specs.Entry.{entry_layout, entry_size, write_entry}
 use Rattle.scan_index.proofs.Stored.{entry_bytes}
-use borrow.Author.Rules.{rules}
 use Rattle.scan_index.proofs.ScanIndexEntry.write.Goals as goal
 
 pub returns-then-size-out : goal.returns-then-size-out
