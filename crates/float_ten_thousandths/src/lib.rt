@@ -11,8 +11,8 @@ use refusal::{CountAnswer, Refusal};
 
 // 10000 is 625 * 2^4, and the digits times 625 fit a `u64`. Below 2^-15 the answer is 0.
 fn scaled(x: f64) -> u64
-    requires t { T (le zero_f x) }
-    requires t_2 { T (le x largest_mass) }
+    requires not_negative { T (le zero_f x) }
+    requires at_most_largest { T (le x largest_mass) }
     ensures { result ≡ scaled x }
 {
     if x >= 0.000030517578125 {

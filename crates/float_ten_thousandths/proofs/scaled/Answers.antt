@@ -23,7 +23,7 @@ above : (c : Then-x) → T (le least (x c))
 above c = subst T (sym (ap (λ k. le k (x c)) (sym least_is) ∙ c.if-x.true)) tt
 
 below : (c : Then-x) → T (le (x c) largest_mass)
-below c = c.requires.t_2
+below c = c.requires.at_most_largest
 
 -- a shifted number has room for a small one
 room : (n k a : ℕ) → n < 2 ^ 63 → a < 2 → n / 2 ^ k + a < 2 ^ 64
@@ -45,4 +45,4 @@ pub returns-then-x : goal.returns-then-x
 returns-then-x c = scaled_is (x (goal.at.returns-then-x c).Then-x) (held (goal.at.returns-then-x c).Then-x) (above (goal.at.returns-then-x c).Then-x) (below (goal.at.returns-then-x c).Then-x)
 
 pub returns-else-x : goal.returns-else-x
-returns-else-x c = below_least c.args.x c.requires.t (subst (λ t. T (not t)) (sym (ap (λ k. le k c.args.x) (sym least_is) ∙ c.if-x.false)) tt)
+returns-else-x c = below_least c.args.x c.requires.not_negative (subst (λ t. T (not t)) (sym (ap (λ k. le k c.args.x) (sym least_is) ∙ c.if-x.false)) tt)

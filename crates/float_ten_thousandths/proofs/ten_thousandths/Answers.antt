@@ -10,7 +10,7 @@ use Rattle.float_ten_thousandths.proofs.ten_thousandths.Goals.{else-x-via-then-x
 
 pub scaled-requires : goal.scaled-requires
 scaled-requires c =
-    let x = c.args.x in record { t = subst T (sym (ap (λ k. le k x) (sym zero_is) ∙ c.if-x.true)) tt; t_2 = subst T (sym (ap (le x) (sym limit_is) ∙ c.if-x-2.true)) tt }
+    let x = c.args.x in record { not_negative = subst T (sym (ap (λ k. le k x) (sym zero_is) ∙ c.if-x.true)) tt; at_most_largest = subst T (sym (ap (le x) (sym limit_is) ∙ c.if-x-2.true)) tt }
 
 pub returns-then-x-2 : goal.returns-then-x-2
 unfolding ten_thousandths
@@ -21,6 +21,6 @@ pub returns-else-x : goal.returns-else-x
 unfolding ten_thousandths
 returns-else-x c =
     elim c.else-x.branch [
-      else-x-via-then-x+else-x-2 w ↦ simp (← zero_is, ← limit_is, w.if-x.true, w.if-x-2.false)
-    | else-x-via-else-x w ↦ simp (← zero_is, w.if-x.false)
+      | else-x-via-then-x+else-x-2 w ↦ simp (← zero_is, ← limit_is, w.if-x.true, w.if-x-2.false)
+      | else-x-via-else-x w ↦ simp (← zero_is, w.if-x.false)
     ]

@@ -14,6 +14,6 @@ returns c =
     let s = a.run.now in
     rw (value_long (leb 64 a.version) (leb 66 a.version) s a.at)
     (elim c.if-version-ge64.branch [
-      then-version-ge64 w ↦ rw (le-leb 64 a.version w.if-version-ge64.true) (cc (w.offset-is, w.u64_at-offset.ensures))
-    | else-version-ge64 w ↦ rw (lt-leb 64 a.version w.if-version-ge64.false) (cc (w.offset-is, w.u32_at.ensures, add-zero a.at))
+      | then-version-ge64 w ↦ rw (le-leb 64 a.version w.if-version-ge64.true) (cc (w.offset-is, w.u64_at-offset.ensures))
+      | else-version-ge64 w ↦ rw (lt-leb 64 a.version w.if-version-ge64.false) (cc (w.offset-is, w.u32_at.ensures, add-zero a.at))
     ])
