@@ -40,7 +40,7 @@ chunked_as h s at (present p) next e =
 module _ (s : List ℕ) (at : ℕ) where
   -- the chunks of a packet that was found
   chunked : {v : PacketPlaces} (t : Standing s at v) → Chunked v.profile t.profile s
-  chunked t = subst (λ q. Chunked q t.profile s) (sym t.is) (chunked_as t.header s at t.profile t.next t.profile-there)
+  chunked t = subst (λ q. Chunked q t.profile s) (sym t.is) (chunked_as t.header s at t.profile t.next t.profile_there)
 
   module _ (capacities : List ℕ) where
     pub places_short : {n : ℕ} {carries : List ℕ} → refused n carries ≡ find_places at s → refused n carries ≡ read_packet capacities at s
@@ -53,7 +53,7 @@ module _ (s : List ℕ) (at : ℕ) where
     places_found {v} e =
         let t = standing s at e in
         let w = t.stands in
-        ap (λ cs. packet_if_fits capacities v (contents_at s v) (chunk_lists cs)) ((chunked t).list ∙ ap chunks_in (sym w.profile-is))
+        ap (λ cs. packet_if_fits capacities v (contents_at s v) (chunk_lists cs)) ((chunked t).list ∙ ap chunks_in (sym w.profile_is))
         ∙ ap (λ c. packet_if_fits capacities v c (chunk_lists (chunks_in w.packet.profile))) w.contents
         ∙ ap (λ (q : PacketPlaces). packet_if_fits capacities q w.packet.contents (chunk_lists (chunks_in w.packet.profile))) w.placed ∙ rw w.there
 

@@ -115,7 +115,7 @@ module _ {count : ℕ} {fudged : Bool} {s : List ℕ} {all : List Chunk} {b c f 
           omega (arith, ap length (ap signals a ∙ signals_append w.done (first.first ∷ first.others)), length-append (signals w.done) (signals (first.first ∷ first.others)), length-append first.first.signal (signals first.others), long, w.written_is)
 
       pub fits : written + n ≤ length v
-      fits = omega (arith, sizes, w.in-signal)
+      fits = omega (arith, sizes, w.in_signal)
 
       -- one chunk more: each column by a store, and the signal through the tail of its slice
       turn : {x y z : ℕ} {W' : List ℕ} → x ≡ little_endian (bytes s at 4) → y ≡ n → z ≡ fudge_at fudged s at
@@ -146,15 +146,15 @@ module _ {count : ℕ} {fudged : Bool} {s : List ℕ} {all : List Chunk} {b c f 
             within = omega arith;
             there = rw next at first.there;
             written_is = sym size;
-            bins = column_more (λ q. q.first_bin) w.done b B i x k w.bins w.passed bin (omega (arith, w.in-bins));
-            counts = column_more points w.done c C i y k w.counts w.passed count_of (omega (arith, w.in-counts));
-            fudges = column_more (λ q. q.fudge) w.done f F i z k w.fudges w.passed fudge (omega (arith, w.in-fudges));
+            bins = column_more (λ q. q.first_bin) w.done b B i x k w.bins w.passed bin (omega (arith, w.in_bins));
+            counts = column_more points w.done c C i y k w.counts w.passed count_of (omega (arith, w.in_counts));
+            fudges = column_more (λ q. q.fudge) w.done f F i z k w.fudges w.passed fudge (omega (arith, w.in_fudges));
             signal = stored;
             same = ap length stored ∙ length_over (signals (w.done ++ (k ∷ []))) v (omega (arith, size, fits));
-            in_bins = w.in-bins;
-            in_counts = w.in-counts;
-            in_fudges = w.in-fudges;
-            in_signal = w.in-signal;
+            in_bins = w.in_bins;
+            in_counts = w.in_counts;
+            in_fudges = w.in_fudges;
+            in_signal = w.in_signal;
           }
 
       -- the same, where the head's size was found

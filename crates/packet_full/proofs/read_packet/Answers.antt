@@ -3,35 +3,28 @@ use mathlib.Core.Path.{◌≡◌, sym, ap, ◌∙◌}
 use Rattle.refusal.specs.Outcome.{ok, on_ok}
 use Rattle.lists.proofs.Left.{left_refused, left_same}
 use Rattle.packet_record.specs.Packet.{contents_at, outcome_of_packet_places}
-use Rattle.packet_record.specs.declared.PacketPlaces.{PacketPlaces}
 use Rattle.packet_places.specs.Places.{find_places}
 use Rattle.packet_full.specs.Internal.{found_chunks}
 use Rattle.packet_full.proofs.Answers.{places_short, places_found, profile_there}
 use Rattle.packet_full.proofs.WithChunks.{chunk_room, tested, has_chunks, no_chunk_room, lists_refused, all_written}
 use borrow.Author.Rules.{rules}
 use Rattle.packet_full.proofs.read_packet.Goals as goal
-use Rattle.packet_full.proofs.read_packet.Goals.{After-chunks_fit, In-Places-2, Start}
+use Rattle.packet_full.proofs.read_packet.Goals.{After-chunks_fit}
 
-abbrev start : In-Places-2 → Start
-start v = (PLACE Start)
-
-abbrev places : In-Places-2 → PacketPlaces
-places v = v.in-Places.places
-
-found : ((PLACE In-Places-2) : In-Places-2) → let a = (start (PLACE In-Places-2)).args in ok (places (PLACE In-Places-2), contents_at a.run.now (places (PLACE In-Places-2))) ≡ find_places a.at a.run.now
-found v = sym (ap (λ r. on_ok (λ p. (p, contents_at (start (PLACE In-Places-2)).args.run.now p)) (outcome_of_packet_places r)) v.in-Places.is) ∙ v.find_places.ensures
+found : (k : After-chunks_fit) → let p = k.in-Places.places in ok (p, contents_at k.args.run.now p) ≡ find_places k.args.at k.args.run.now
+found k = sym (ap (λ r. on_ok (λ p. (p, contents_at k.args.run.now p)) (outcome_of_packet_places r)) k.in-Places.is) ∙ k.find_places.ensures
 
 -- what the test says
-test : ((PLACE After-chunks_fit) : After-chunks_fit) → let a = (start (PLACE In-Places-2)).args in
-    k.chunks_fit.result ≡ chunk_room (found_chunks (places (PLACE In-Places-2)).profile a.run.now) a.bins.now a.counts.now a.fudges.now a.signal.now
+test : (k : After-chunks_fit) → let a = k.args in
+    k.chunks_fit.result ≡ chunk_room (found_chunks k.in-Places.places.profile a.run.now) a.bins.now a.counts.now a.fudges.now a.signal.now
 test k =
-    let a = (start (PLACE In-Places-2)).args in
-    tested (places (PLACE In-Places-2)).profile a.run.now a.bins.now a.counts.now a.fudges.now a.signal.now (profile_there a.run.now a.at (found (PLACE In-Places-2))) k.chunks_fit.ensures
+    let a = k.args in
+    tested k.in-Places.places.profile a.run.now a.bins.now a.counts.now a.fudges.now a.signal.now (profile_there a.run.now a.at (found k)) k.chunks_fit.ensures
 
 pub write_profile-requires : goal.write_profile-requires
 write_profile-requires c =
-    let a = (start (goal.at.write_profile-requires c).In-Places-2).args in
-    has_chunks (places (goal.at.write_profile-requires c).In-Places-2).profile _ _ _ _ _ (profile_there a.run.now a.at (found (goal.at.write_profile-requires c).In-Places-2)) (sym (test (goal.at.write_profile-requires c).After-chunks_fit) ∙ c.if-chunks_fit.true)
+    let k = (goal.at.write_profile-requires c).After-chunks_fit in
+    has_chunks c.in-Places.places.profile _ _ _ _ _ (profile_there c.args.run.now c.args.at (found k)) (sym (test k) ∙ c.if-chunks_fit.true)
 
 pub returns-in-Refused : goal.returns-in-Refused
 returns-in-Refused c =
@@ -40,16 +33,18 @@ returns-in-Refused c =
 
 pub returns-in-Refused-write_packet : goal.returns-in-Refused-write_packet
 returns-in-Refused-write_packet c =
-    let s = (start (goal.at.returns-in-Refused-write_packet c).In-Places-2).args.run.now in
-    left_same (places_found _ _ _ (found (goal.at.returns-in-Refused-write_packet c).In-Places-2)) (lists_refused _ _ (found_chunks (places (goal.at.returns-in-Refused-write_packet c).In-Places-2).profile s) _ _ _ _ _ _ _ _ (rw c.in-Refused-write_packet.is at c.write_packet.ensures))
+    let k = (goal.at.returns-in-Refused-write_packet c).After-chunks_fit in
+    left_same (places_found _ _ _ (found k))
+    (lists_refused _ _ (found_chunks c.in-Places.places.profile c.args.run.now) _ _ _ _ _ _ _ _ (rw c.in-Refused-write_packet.is at c.write_packet.ensures))
 
 pub returns-in-Packet : goal.returns-in-Packet
 returns-in-Packet c =
-    let s = (start (goal.at.returns-in-Packet c).In-Places-2).args.run.now in
-    left_same (places_found _ _ _ (found (goal.at.returns-in-Packet c).In-Places-2))
-    (all_written _ _ (found_chunks (places (goal.at.returns-in-Packet c).In-Places-2).profile s) _ _ _ _ _ _ _ _ (sym (test (goal.at.returns-in-Packet c).After-chunks_fit) ∙ c.if-chunks_fit.true) (rw c.in-Packet.is at c.write_packet.ensures) c.write_profile.ensures)
+    let k = (goal.at.returns-in-Packet c).After-chunks_fit in
+    left_same (places_found _ _ _ (found k))
+    (all_written _ _ (found_chunks c.in-Places.places.profile c.args.run.now) _ _ _ _ _ _ _ _ (sym (test k) ∙ c.if-chunks_fit.true) (rw c.in-Packet.is at c.write_packet.ensures) c.write_profile.ensures)
 
 pub returns-else-chunks_fit : goal.returns-else-chunks_fit
 returns-else-chunks_fit c =
-    let s = (start (goal.at.returns-else-chunks_fit c).In-Places-2).args.run.now in
-    left_same (places_found _ _ _ (found (goal.at.returns-else-chunks_fit c).In-Places-2)) (no_chunk_room _ _ (found_chunks (places (goal.at.returns-else-chunks_fit c).In-Places-2).profile s) _ _ _ _ _ _ _ _ (sym (test (goal.at.returns-else-chunks_fit c).After-chunks_fit) ∙ c.if-chunks_fit.false))
+    let k = (goal.at.returns-else-chunks_fit c).After-chunks_fit in
+    left_same (places_found _ _ _ (found k))
+    (no_chunk_room _ _ (found_chunks c.in-Places.places.profile c.args.run.now) _ _ _ _ _ _ _ _ (sym (test k) ∙ c.if-chunks_fit.false))

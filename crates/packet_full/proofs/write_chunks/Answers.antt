@@ -49,7 +49,7 @@ slice_bounds-copy_u32s-start c =
 pub overflow_add-written : goal.overflow_add-written
 overflow_add-written c =
     let w = c.loop-i.invariant in
-    omega (arith, fits w (omega (arith, c.loop-i-test.true)) c.u32_at-n.result c.u32_at-n.ensures, w.same, c.well_formed.1.1.1.1.1)
+    omega (arith, fits w (omega (arith, c.loop-i-test.true)) c.u32_at-n.result c.u32_at-n.ensures, w.same)
 
 pub overflow_add-at-in-loop-i-2 : goal.overflow_add-at-in-loop-i-2
 overflow_add-at-in-loop-i-2 c =

@@ -9,7 +9,7 @@ use Rattle.packet_profile.proofs.Chunks.{list_short, list_all}
 use Rattle.packet_profile.proofs.Signals.{There, there, missing, points_at}
 use borrow.Author.Rules.{rules}
 use Rattle.packet_profile.proofs.pass_chunks.Goals as goal
-use Rattle.packet_profile.proofs.pass_chunks.Goals.{After-struct_known-1}
+use Rattle.packet_profile.proofs.pass_chunks.Goals.{In-Signal}
 
 pub loop-i-init : goal.loop-i-init
 loop-i-init c = (search rules, search rules, walk_none points_of (chunk _) _ _ _)
@@ -21,17 +21,17 @@ returns-in_default c =
     list_short a.fudged a.count a.run.now a.start l.i l.at l.points (omega arith) l.invariant.2 (missing a.fudged a.run.now l.at (sym (ap outcome_of_signal c.in_default.is) ∙ c.signal_at.ensures))
 
 -- the chunk of this turn is there
-chunk_there : (c : After-struct_known-1) → let a = c.args in There a.fudged a.run.now c.loop-i.at c.in-Signal.signal
+chunk_there : (c : In-Signal) → let a = c.args in There a.fudged a.run.now c.loop-i.at c.in-Signal.signal
 chunk_there c = there _ _ _ (sym (ap outcome_of_signal c.in-Signal.is) ∙ c.signal_at.ensures)
 
 pub overflow_add-points : goal.overflow_add-points
-overflow_add-points c = omega (arith, c.loop-i.invariant.1, (chunk_there (goal.at.overflow_add-points c).After-struct_known-1).starts, (chunk_there (goal.at.overflow_add-points c).After-struct_known-1).ends)
+overflow_add-points c = omega (arith, c.loop-i.invariant.1, (chunk_there (goal.at.overflow_add-points c).In-Signal).starts, (chunk_there (goal.at.overflow_add-points c).In-Signal).ends)
 
 pub loop-i-preserved : goal.loop-i-preserved
 loop-i-preserved c =
     let a = c.args in
     let l = c.loop-i in
-    let t = chunk_there (goal.at.loop-i-preserved c).After-struct_known-1 in
+    let t = chunk_there (goal.at.loop-i-preserved c).In-Signal in
     let v = c.in-Signal.signal in
     let more = walk_more points_of (chunk a.fudged) a.run.now a.start a.count l.i l.at l.points (omega arith) l.invariant.2 t.here in
     (search rules, omega (arith, l.invariant.1, t.starts, t.ends), rw (points_at a.fudged a.run.now l.at v.points) at more)

@@ -6,4 +6,4 @@ use Rattle.packet_record.proofs.write_lists.Goals as goal
 
 pub returns : goal.returns
 returns c =
-    all_written c.args.places _ _ _ _ _ c.requires (omega (arith, c.well_formed.0)) c.item_size-stride.ensures.value c.saturating_add.ensures c.write_peaks.ensures c.copy_u32s.ensures.stands c.copy_u32s-2.ensures.stands
+    all_written c.args.places _ _ _ _ _ c.requires (omega arith) c.item_size-stride.ensures.value c.saturating_add.ensures c.write_peaks.ensures c.copy_u32s.ensures.stands c.copy_u32s-2.ensures.stands
