@@ -80,10 +80,10 @@ module _ (p : Profile) (coefficients s : List ℕ) (mz₀ intensity₀ : List Fl
         omega (arith, w.count)
 
     pub mz_size : length mz ≡ length mz₀
-    mz_size = rw w.in-mz (length_over (firsts w.pairs) mz₀ (rw (length-map w.pairs (λ (q : Pair). q.0)) (omega (arith, w.count, so_far))))
+    mz_size = rw w.in_mz (length_over (firsts w.pairs) mz₀ (rw (length-map w.pairs (λ (q : Pair). q.0)) (omega (arith, w.count, so_far))))
 
     pub intensity_size : length intensity ≡ length intensity₀
-    intensity_size = rw w.in-intensity (length_over (seconds w.pairs) intensity₀ (rw (length-map w.pairs (λ (q : Pair). q.1)) (omega (arith, w.count, so_far))))
+    intensity_size = rw w.in_intensity (length_over (seconds w.pairs) intensity₀ (rw (length-map w.pairs (λ (q : Pair). q.1)) (omega (arith, w.count, so_far))))
 
     pub mz_within : n ≤ length mz
     mz_within = omega (arith, mz_size, so_far)
@@ -97,7 +97,7 @@ module _ (p : Profile) (coefficients s : List ℕ) (mz₀ intensity₀ : List Fl
 
     all_written : w.pairs ≡ profile_pairs p coefficients s
         → (mz ≡ over (firsts (profile_pairs p coefficients s)) mz₀) × (intensity ≡ over (seconds (profile_pairs p coefficients s)) intensity₀)
-    all_written e = (rw (← e) w.in-mz, rw (← e) w.in-intensity)
+    all_written e = (rw (← e) w.in_mz, rw (← e) w.in_intensity)
 
     pub writing_short : parse (chunk p.fudged) s at ≡ short
         → (mz ≡ over (firsts (profile_pairs p coefficients s)) mz₀) × (intensity ≡ over (seconds (profile_pairs p coefficients s)) intensity₀)
@@ -144,7 +144,7 @@ module _ (p : Profile) (coefficients s : List ℕ) (mz₀ intensity₀ : List Fl
             total = more;
             count = length-append w.pairs new ∙ omega (arith, w.count, size_new);
             in_mz = rw (map-append (λ (q : Pair). q.0) w.pairs new)
-                (over_tail (firsts w.pairs) (firsts new) mz₀ mz ys n k (length-map w.pairs (λ (q : Pair). q.0) ∙ w.count) (omega (arith, so_far)) w.in-mz hk both.0);
+                (over_tail (firsts w.pairs) (firsts new) mz₀ mz ys n k (length-map w.pairs (λ (q : Pair). q.0) ∙ w.count) (omega (arith, so_far)) w.in_mz hk both.0);
             in_intensity = rw (map-append (λ (q : Pair). q.1) w.pairs new)
-                (over_tail (seconds w.pairs) (seconds new) intensity₀ intensity zs n l (length-map w.pairs (λ (q : Pair). q.1) ∙ w.count) (omega (arith, so_far)) w.in-intensity hl both.1);
+                (over_tail (seconds w.pairs) (seconds new) intensity₀ intensity zs n l (length-map w.pairs (λ (q : Pair). q.1) ∙ w.count) (omega (arith, so_far)) w.in_intensity hl both.1);
           }

@@ -24,8 +24,3 @@ pub returns-in-5 : goal.returns-in-5
 returns-in-5 c =
     rw (c.f64_of_bits-in-5.ensures, c.f64_of_bits-in-5-2.ensures, c.f64_of_bits-in-5-3.ensures)
     (with_five_or_seven c.args.coefficients.now c.in-5.is)
-
-pub returns-in_default : goal.returns-in_default
-returns-in_default c =
-    let none = c.in_default.rest in
-    with_others c.args.coefficients.now none.0.0.1 none.0.1 none.1

@@ -21,7 +21,7 @@ returns-then-holds c =
     let w = c.write_pairs.ensures in
     each_over (mz_of a.bins a.first_bin a.fudge a.coefficients.now) (λ k. f32_at a.run.now (a.at + k * 4)) a.n a.mz.now a.intensity.now
     (sym (rw c.holds.ensures at c.holds-2.ensures) ∙ c.if-holds.true)
-    (mz_written _ _ _ _ _ _ _ _ _ w.0 c.conversion_of.ensures c.chunk_bins.ensures) w.1
+    (mz_written _ _ _ _ _ _ _ _ _ w.mz_after c.conversion_of.ensures c.chunk_bins.ensures) w.intensity_after
 
 pub returns : goal.returns
 unfolding chunk_pairs

@@ -20,7 +20,7 @@ returns-then-holds c =
     let a = c.args in
     let w = c.write_pairs.ensures in
     pairs_over _ _ _ (counted a.profile a.coefficients.now a.run.now ∙ sym c.count_pairs-pairs.ensures)
-    (sym (rw c.holds.ensures at c.holds-2.ensures) ∙ c.if-holds.true) w.0 w.1
+    (sym (rw c.holds.ensures at c.holds-2.ensures) ∙ c.if-holds.true) w.mz_after w.intensity_after
 
 pub returns : goal.returns
 returns c =

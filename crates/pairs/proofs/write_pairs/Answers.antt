@@ -24,14 +24,15 @@ pub returns-in_default : goal.returns-in_default
 returns-in_default c =
     let a = c.args in
     let l = c.loop-i in
-    writing_short _ _ _ _ _ c.requires.run_in_bounds c.requires.run_in_bounds_2 l.invariant (missing a.profile.fudged a.run.now l.at (sym (ap outcome_of_signal c.in_default.is) ∙ c.signal_at.ensures))
+    let all = writing_short _ _ _ _ _ c.requires.run_in_bounds c.requires.run_in_bounds_2 l.invariant (missing a.profile.fudged a.run.now l.at (sym (ap outcome_of_signal c.in_default.is) ∙ c.signal_at.ensures)) in
+    record { mz_after = all.0; intensity_after = all.1 }
 
 -- the chunk of this turn is there
 chunk_there : (c : In-Signal) → There c.args.profile.fudged c.args.run.now c.loop-i.at c.in-Signal.signal
 chunk_there c = there _ _ _ (sym (ap outcome_of_signal c.in-Signal.is) ∙ c.signal_at.ensures)
 
 pub offset_bounds-mz-n : goal.offset_bounds-mz-n
-offset_bounds-mz-n c = omega (arith, mz_within _ _ _ _ _ c.requires.run_in_bounds c.requires.run_in_bounds_2 c.loop-i.invariant, mz_size _ _ _ _ _ c.requires.run_in_bounds c.requires.run_in_bounds_2 c.loop-i.invariant, c.well_formed)
+offset_bounds-mz-n c = omega (arith, mz_within _ _ _ _ _ c.requires.run_in_bounds c.requires.run_in_bounds_2 c.loop-i.invariant, mz_size _ _ _ _ _ c.requires.run_in_bounds c.requires.run_in_bounds_2 c.loop-i.invariant)
 
 pub slice_bounds-write_chunk-count : goal.slice_bounds-write_chunk-count
 slice_bounds-write_chunk-count c = omega (arith, mz_within _ _ _ _ _ c.requires.run_in_bounds c.requires.run_in_bounds_2 c.loop-i.invariant)
@@ -40,7 +41,7 @@ pub slice_bounds-write_chunk-start : goal.slice_bounds-write_chunk-start
 slice_bounds-write_chunk-start c = omega (arith, mz_within _ _ _ _ _ c.requires.run_in_bounds c.requires.run_in_bounds_2 c.loop-i.invariant)
 
 pub offset_bounds-intensity-n : goal.offset_bounds-intensity-n
-offset_bounds-intensity-n c = omega (arith, mz_within _ _ _ _ _ c.requires.run_in_bounds c.requires.run_in_bounds_2 c.loop-i.invariant, mz_size _ _ _ _ _ c.requires.run_in_bounds c.requires.run_in_bounds_2 c.loop-i.invariant, c.well_formed)
+offset_bounds-intensity-n c = omega (arith, mz_within _ _ _ _ _ c.requires.run_in_bounds c.requires.run_in_bounds_2 c.loop-i.invariant, mz_size _ _ _ _ _ c.requires.run_in_bounds c.requires.run_in_bounds_2 c.loop-i.invariant)
 
 pub slice_bounds-write_chunk-count-in-loop-i : goal.slice_bounds-write_chunk-count-in-loop-i
 slice_bounds-write_chunk-count-in-loop-i c = omega (arith, intensity_within _ _ _ _ _ c.requires.run_in_bounds c.requires.run_in_bounds_2 c.loop-i.invariant)
@@ -49,10 +50,10 @@ pub slice_bounds-write_chunk-start-in-loop-i : goal.slice_bounds-write_chunk-sta
 slice_bounds-write_chunk-start-in-loop-i c = omega (arith, intensity_within _ _ _ _ _ c.requires.run_in_bounds c.requires.run_in_bounds_2 c.loop-i.invariant)
 
 pub overflow_add-n : goal.overflow_add-n
-overflow_add-n c = omega (arith, with_chunk _ _ _ _ _ c.requires.run_in_bounds c.requires.run_in_bounds_2 c.loop-i.invariant (omega (arith, c.loop-i-test.true)) (chunk_there (goal.at.overflow_add-n c).In-Signal), c.requires.run_in_bounds, c.well_formed)
+overflow_add-n c = omega (arith, with_chunk _ _ _ _ _ c.requires.run_in_bounds c.requires.run_in_bounds_2 c.loop-i.invariant (omega (arith, c.loop-i-test.true)) (chunk_there (goal.at.overflow_add-n c).In-Signal), c.requires.run_in_bounds)
 
 pub overflow_add-i : goal.overflow_add-i
-overflow_add-i c = omega (arith, c.loop-i-test.true, c.struct_known-1.given)
+overflow_add-i c = omega (arith, c.loop-i-test.true)
 
 pub loop-i-preserved : goal.loop-i-preserved
 loop-i-preserved c =
@@ -66,4 +67,6 @@ pub shape_of-intensity : goal.shape_of-intensity
 shape_of-intensity c = intensity_size _ _ _ _ _ c.requires.run_in_bounds c.requires.run_in_bounds_2 c.loop-i.invariant
 
 pub returns : goal.returns
-returns c = writing_all _ _ _ _ _ c.requires.run_in_bounds c.requires.run_in_bounds_2 c.loop-i.invariant (omega (arith, c.loop-i.invariant.passed))
+returns c =
+    let all = writing_all _ _ _ _ _ c.requires.run_in_bounds c.requires.run_in_bounds_2 c.loop-i.invariant (omega (arith, c.loop-i.invariant.passed)) in
+    record { mz_after = all.0; intensity_after = all.1 }
