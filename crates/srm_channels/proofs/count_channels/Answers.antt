@@ -1,12 +1,12 @@
 -- `srm_channels::count_channels` meets its contract. The invariant: `count` places below i hold a channel.
 use mathlib.Core.Path.{sym, ◌∙◌}
-use mathlib.Core.Logic.{⊎_elim}
 use Prim.Native.Nat.{◌-◌, ◌≤◌}
 use native.Mathlib.Omega.{arith}
 use Rattle.srm_channels.specs.Channels.{channel_test, channel_at, channels_in}
 use Rattle.srm_channels.proofs.Turns.{Counted, count_none, count_in, count_out, count_done}
 use borrow.Author.Rules.{rules}
 use Rattle.srm_channels.proofs.count_channels.Goals as goal
+use Rattle.srm_channels.proofs.count_channels.Goals.{then-is_channel, else-is_channel}
 
 pub loop-i-init : goal.loop-i-init
 loop-i-init c = (count_none _ _ _, search rules)
@@ -20,10 +20,10 @@ overflow_add-count c = omega (arith, c.loop-i.invariant.0.within)
 pub loop-i-preserved : goal.loop-i-preserved
 loop-i-preserved c =
     let inv = c.loop-i.invariant.0 in
-    ⊎_elim
-    (λ w. (rw w.1 (count_in _ _ _ _ _ (sym c.is_channel.ensures ∙ w.0.taken) inv), omega (arith, inv.started)))
-    (λ w. (rw w.1 (count_out _ _ _ _ _ (sym c.is_channel.ensures ∙ w.0.left) inv), omega (arith, inv.started)))
-    c.if-is_channel.branch
+    elim c.if-is_channel.branch [
+      | then-is_channel w ↦ (rw w.count-is (count_in _ _ _ _ _ (sym c.is_channel.ensures ∙ w.if-is_channel.true) inv), omega (arith, inv.started))
+      | else-is_channel w ↦ (rw w.count-is (count_out _ _ _ _ _ (sym c.is_channel.ensures ∙ w.if-is_channel.false) inv), omega (arith, inv.started))
+    ]
 
 pub returns : goal.returns
 unfolding channels_in

@@ -1,6 +1,6 @@
 -- `srm_channels::write_channels` meets its contract. The invariant: the channels at places below i are written, `written` of them.
-use mathlib.Core.Path.{ap, sym, ◌∙◌}
-use mathlib.Core.Logic.{⊎_elim}
+use mathlib.Core.Path.{◌≡◌, ap, sym, ◌∙◌}
+use mathlib.Core.Bool.{true}
 use Prim.Native.Nat.{◌-◌, ◌≤◌, ◌<◌}
 use native.Mathlib.Omega.{arith}
 use lib.ListN.{length}
@@ -9,16 +9,16 @@ use Rattle.srm_channels.proofs.Turns.{Counted, count_none, count_in, count_out, 
 use Rattle.srm_channels.proofs.Answers.{channel_event}
 use borrow.Author.Rules.{rules}
 use Rattle.srm_channels.proofs.write_channels.Goals as goal
-use Rattle.srm_channels.proofs.write_channels.Goals.{Then-is_channel}
+use Rattle.srm_channels.proofs.write_channels.Goals.{After-is_channel, then-is_channel, else-is_channel}
 
 -- at a channel there is one more than were written, so each slice has a place for it
-room : (c : Then-is_channel)
+room : (c : After-is_channel) → c.is_channel.result ≡ true
     → let l = c.loop-i in
     (l.written < length l.channel_events) × (l.written < length l.q1) × (l.written < length l.collision_energy)
 unfolding channels_in
-room c =
+room c held =
     let pre = c.requires in
-    let more : c.loop-i.written < length (channels_in c.args.events.now c.args.«data».now) = count_room _ _ _ _ _ _ (sym c.is_channel.ensures ∙ c.if-is_channel.true) c.loop-i.invariant.0 (omega arith) in
+    let more : c.loop-i.written < length (channels_in c.args.events.now c.args.«data».now) = count_room _ _ _ _ _ _ (sym c.is_channel.ensures ∙ held) c.loop-i.invariant.0 (omega arith) in
     (omega (arith, more, pre.data_in_bounds, c.loop-i.invariant.1.same), omega (arith, more, pre.data_in_bounds_2, c.loop-i.invariant.2.same), omega (arith, more, pre.data_in_bounds_3, c.loop-i.invariant.3.same))
 
 pub loop-i-init : goal.loop-i-init
@@ -32,19 +32,19 @@ channel_at-channel-requires c =
     record { le_i = (omega (arith, c.loop-i.invariant.0.started), omega arith); i_bound = channel_event 65536 _ _ _ (λ k. omega (arith, c.type_inv.events k)) (sym c.is_channel.ensures ∙ c.if-is_channel.true) }
 
 pub bounds-channel_events-written : goal.bounds-channel_events-written
-bounds-channel_events-written c = (room (goal.at.bounds-channel_events-written c).Then-is_channel).0
+bounds-channel_events-written c = (room (goal.at.bounds-channel_events-written c).After-is_channel c.if-is_channel.true).0
 
 pub offset_bounds-q1-written : goal.offset_bounds-q1-written
-offset_bounds-q1-written c = let r = (room (goal.at.offset_bounds-q1-written c).Then-is_channel).1 in search rules
+offset_bounds-q1-written c = let r = (room (goal.at.offset_bounds-q1-written c).After-is_channel c.if-is_channel.true).1 in search rules
 
 pub bounds-q1-written : goal.bounds-q1-written
-bounds-q1-written c = (room (goal.at.bounds-q1-written c).Then-is_channel).1
+bounds-q1-written c = (room (goal.at.bounds-q1-written c).After-is_channel c.if-is_channel.true).1
 
 pub offset_bounds-collision_energy-written : goal.offset_bounds-collision_energy-written
-offset_bounds-collision_energy-written c = let r = (room (goal.at.offset_bounds-collision_energy-written c).Then-is_channel).2 in search rules
+offset_bounds-collision_energy-written c = let r = (room (goal.at.offset_bounds-collision_energy-written c).After-is_channel c.if-is_channel.true).2 in search rules
 
 pub bounds-collision_energy-written : goal.bounds-collision_energy-written
-bounds-collision_energy-written c = (room (goal.at.bounds-collision_energy-written c).Then-is_channel).2
+bounds-collision_energy-written c = (room (goal.at.bounds-collision_energy-written c).After-is_channel c.if-is_channel.true).2
 
 pub overflow_add-written : goal.overflow_add-written
 overflow_add-written c = omega (arith, c.loop-i.invariant.0.within)
@@ -52,27 +52,28 @@ overflow_add-written c = omega (arith, c.loop-i.invariant.0.within)
 pub loop-i-preserved : goal.loop-i-preserved
 loop-i-preserved c =
     let inv = c.loop-i.invariant in
-    ⊎_elim
-    (λ w.
-    let t = sym c.is_channel.ensures ∙ w.0.taken in
-    let r = room (record { before = (goal.at.loop-i-preserved c).After-is_channel; if1 = w.0 }) in
-    let channel = w.1.ensures in (
-      rw w.5 (count_in _ _ _ _ _ t inv.0),
-      rw w.2 (write_in _ _ _ _ _ _ _ _ _ t inv.0 (ap (λ k. k.event) channel) (omega (arith, r.0, inv.1.same)) inv.1),
-      rw w.3 (write_in _ _ _ _ _ _ _ _ _ t inv.0 (ap (λ k. k.q1) channel) (omega (arith, r.1, inv.2.same)) inv.2),
-      rw w.4 (write_in _ _ _ _ _ _ _ _ _ t inv.0 (ap (λ k. k.collision_energy) channel) (omega (arith, r.2, inv.3.same)) inv.3),
-      omega (arith, inv.0.started),
-    ))
-    (λ w.
-    let t = sym c.is_channel.ensures ∙ w.0.left in
-    let s = inv.0.started in (
-      rw w.4 (count_out _ _ _ _ _ t inv.0),
-      rw w.1 (write_out _ _ _ _ _ _ _ t s inv.1),
-      rw w.2 (write_out _ _ _ _ _ _ _ t s inv.2),
-      rw w.3 (write_out _ _ _ _ _ _ _ t s inv.3),
-      omega arith,
-    ))
-    c.if-is_channel.branch
+    let before = (goal.at.loop-i-preserved c).After-is_channel in
+    elim c.if-is_channel.branch [
+      | then-is_channel w ↦
+          let t = sym c.is_channel.ensures ∙ w.if-is_channel.true in
+          let r = room before w.if-is_channel.true in
+          let channel = w.channel_at-channel.ensures in (
+            rw w.written-is (count_in _ _ _ _ _ t inv.0),
+            rw w.channel_events-is (write_in _ _ _ _ _ _ _ _ _ t inv.0 (ap (λ k. k.event) channel) (omega (arith, r.0, inv.1.same)) inv.1),
+            rw w.q1-is (write_in _ _ _ _ _ _ _ _ _ t inv.0 (ap (λ k. k.q1) channel) (omega (arith, r.1, inv.2.same)) inv.2),
+            rw w.collision_energy-is (write_in _ _ _ _ _ _ _ _ _ t inv.0 (ap (λ k. k.collision_energy) channel) (omega (arith, r.2, inv.3.same)) inv.3),
+            omega (arith, inv.0.started),
+          )
+      | else-is_channel w ↦
+          let t = sym c.is_channel.ensures ∙ w.if-is_channel.false in
+          let s = inv.0.started in (
+            rw w.written-is (count_out _ _ _ _ _ t inv.0),
+            rw w.channel_events-is (write_out _ _ _ _ _ _ _ t s inv.1),
+            rw w.q1-is (write_out _ _ _ _ _ _ _ t s inv.2),
+            rw w.collision_energy-is (write_out _ _ _ _ _ _ _ t s inv.3),
+            omega (arith, inv.0.started),
+          )
+    ]
 
 pub shape_of-channel_events : goal.shape_of-channel_events
 shape_of-channel_events c = c.loop-i.invariant.1.same

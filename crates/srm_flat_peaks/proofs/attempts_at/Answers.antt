@@ -8,8 +8,7 @@ use Rattle.srm_flat_peaks.proofs.attempts_at.Goals as goal
 pub returns-in-Accepted : goal.returns-in-Accepted
 returns-in-Accepted c =
     let a = c.args in
-    let g = c.place-1.given in
-    by_both a.end a.cum_end a.data_size a.run.now a.end (Accepted g.0.0 g.0.1.0) _ (sym g.1 ∙ c.attempt_at.ensures) refl
+    by_both a.end a.cum_end a.data_size a.run.now a.end (Accepted c.in-Accepted.place c.in-Accepted.count) _ (sym c.in-Accepted.is ∙ c.attempt_at.ensures) refl
 
 pub returns-in-RanOut : goal.returns-in-RanOut
 returns-in-RanOut c =

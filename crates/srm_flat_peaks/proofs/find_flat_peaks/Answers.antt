@@ -14,8 +14,7 @@ returns-then-data_size-le1 c =
 pub returns-in-Accepted : goal.returns-in-Accepted
 returns-in-Accepted c =
     let a = c.args in
-    let g = c.place-1.given in
-    by_attempts a.«data» a.cum_end a.data_size a.run.now _ c.saturating_add-end.ensures (omega arith) (Accepted g.0.0 g.0.1.0) (sym g.1 ∙ c.attempts_at.ensures)
+    by_attempts a.«data» a.cum_end a.data_size a.run.now _ c.saturating_add-end.ensures (omega arith) (Accepted c.in-Accepted.place c.in-Accepted.count) (sym c.in-Accepted.is ∙ c.attempts_at.ensures)
 
 pub returns-in-PassedOver : goal.returns-in-PassedOver
 returns-in-PassedOver c =
