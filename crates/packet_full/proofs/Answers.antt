@@ -7,12 +7,12 @@ use Rattle.parser.specs.Parser.{parsed, parse}
 use Rattle.parser.specs.Walk.{sum}
 use Rattle.parser.specs.Call.{outcome}
 use Rattle.packet_header.specs.declared.PacketHeader.{PacketHeader}
-use Rattle.packet_profile.specs.Profile.{points, profile, profile_record}
+use Rattle.packet_profile.specs.Profile.{points, profile_record}
 use Rattle.packet_profile.proofs.Answers.{profile_chunks}
 use Rattle.packet_record.specs.Packet.{OptionalProfile, absent, present, Contents, contents_at, profile_place, packet_if_fits}
 use Rattle.packet_record.specs.declared.PacketProfile.{PacketProfile}
 use Rattle.packet_record.specs.declared.PacketPlaces.{PacketPlaces}
-use Rattle.packet_places.specs.Packet.{optional_profile, packet}
+use Rattle.packet_places.specs.Packet.{optional_profile}
 use Rattle.packet_places.specs.Places.{find_places}
 use Rattle.packet_places.proofs.Stages.{present_parsed}
 use Rattle.packet_places.proofs.Answers.{packet_short, Standing, standing}

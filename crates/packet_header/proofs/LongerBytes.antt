@@ -1,6 +1,6 @@
 -- Demand 3 for a packet's header, and the sizes in it.
 use mathlib.Core.Path.{◌≡◌}
-use Prim.Native.Nat.{ℕ, ◌^◌, ◌-◌, ◌<◌}
+use Prim.Native.Nat.{ℕ, ◌^◌, ◌<◌}
 use lib.Dec.{lit≤}
 use Rattle.refusal.specs.Outcome.{ok}
 use Rattle.parser.specs.LongerBytes.{OnLongerBytes}

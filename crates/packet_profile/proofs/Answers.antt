@@ -11,7 +11,7 @@ use Rattle.refusal.specs.Outcome.{ok, refused, ran_out}
 use Rattle.parser.specs.Parser.{Parser, Parsed, short, parsed, done, bytes, little_endian, remaining, within, parse, repeat, counted, ◌>>=◌}
 use Rattle.parser.specs.Walk.{sum}
 use Rattle.parser.specs.Call.{outcome}
-use Rattle.parser.specs.Internal.{Sized, value}
+use Rattle.parser.specs.Internal.{Sized}
 use Rattle.parser.proofs.Prefix.{within_parsed, parse_bind, bind_parsed}
 use Rattle.parser.proofs.Fixed.{parse_sized, parse_stage}
 use Rattle.parser.proofs.Answered.{found, RanOut, ran_out_lem}

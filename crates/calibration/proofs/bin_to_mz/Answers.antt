@@ -1,5 +1,4 @@
 -- `calibration::bin_to_mz` meets its contract.
-use Rattle.std.proofs.Common.{rules}
 use Rattle.calibration.proofs.bin_to_mz.Goals as goal
 
 pub returns : goal.returns

@@ -1,5 +1,4 @@
 -- `calibration::chunk_bins` meets its contract.
-use Rattle.std.proofs.Common.{rules}
 use Rattle.calibration.proofs.chunk_bins.Goals as goal
 
 pub returns : goal.returns

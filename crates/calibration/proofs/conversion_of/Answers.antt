@@ -1,6 +1,6 @@
 -- `calibration::conversion_of` meets its contract.
-use Rattle.std.proofs.Common.{⊎_elim, arith, rules}
-use Rattle.calibration.proofs.Conversions.{with_length, with_five_or_seven, with_others}
+use Rattle.std.proofs.Common.{⊎_elim, arith}
+use Rattle.calibration.proofs.Conversions.{with_length, with_five_or_seven}
 use Rattle.calibration.proofs.conversion_of.Goals as goal
 
 pub bounds-coefficients-2-in-5 : goal.bounds-coefficients-2-in-5

@@ -1,5 +1,5 @@
 -- `calibration::freq_to_mz` meets its contract.
-use Rattle.std.proofs.Common.{◌∙◌, rules}
+use Rattle.std.proofs.Common.{◌∙◌}
 use Rattle.calibration.proofs.Conversions.{mz_by_conversion}
 use Rattle.calibration.proofs.freq_to_mz.Goals as goal
 

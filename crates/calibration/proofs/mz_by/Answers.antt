@@ -1,5 +1,5 @@
 -- `calibration::mz_by` meets its contract: a law for each value that the known conversion gives.
-use Rattle.std.proofs.Common.{refl, rules}
+use Rattle.std.proofs.Common.{refl}
 use lib.Ieee.{binary64}
 use Rattle.float_bits.proofs.Patterns.{zero_by_zero}
 use Rattle.calibration.specs.declared.Conversion.TheVariants.{None, Frequency, SquaredFrequency, Unknown}

@@ -1,12 +1,11 @@
 -- `calibration::write_pairs` meets its contract. The invariant: the first i pairs are written, and the place is that of the
 -- next signal.
-use Rattle.std.proofs.Common.{◌≡◌, ◌+◌, ◌-◌, ◌*◌, ◌^◌, min, ap, ◌∙◌, arith, rules}
+use Rattle.std.proofs.Common.{◌+◌, ◌*◌, ap, ◌∙◌, arith}
 use lib.Ieee.{binary32, of_bits}
-use Rattle.parser.specs.Parser.{bytes, little_endian, f32_at}
-use Rattle.lists.proofs.Laws.{Filling, fill_none, fill_more, fill_done}
+use Rattle.parser.specs.Parser.{bytes, little_endian}
+use Rattle.lists.proofs.Laws.{fill_none, fill_more, fill_done}
 use Rattle.reader.proofs.Words.{le_saturated}
 use Rattle.reader.proofs.Copies.{next_place}
-use Rattle.calibration.specs.Internal.{mz_on}
 use Rattle.calibration.proofs.write_pairs.Goals as goal
 
 pub loop-i-init : goal.loop-i-init

@@ -1,11 +1,8 @@
 -- `calibration::write_pairs` meets its contract. The invariant: the first i pairs are written, and the place is that of the
 -- next signal.
-use Rattle.std.proofs.Common.{◌≡◌, ◌+◌, ◌-◌, ◌*◌, ◌^◌, min, ap, ◌∙◌, arith, rules}
-use lib.Ieee.{binary32, of_bits}
-use Rattle.parser.specs.Parser.{bytes, little_endian, f32_at}
-use Rattle.lists.proofs.Laws.{Filling, fill_none, fill_more, fill_done}
-use Rattle.reader.proofs.Words.{le_saturated}
-use Rattle.reader.proofs.Copies.{next_place}
+use Rattle.std.proofs.Common.{◌≡◌, ◌+◌, ◌-◌, ◌*◌, ◌^◌, min}
+use Rattle.parser.specs.Parser.{f32_at}
+use Rattle.lists.proofs.Laws.{Filling}
 use Rattle.calibration.specs.Internal.{mz_on}
 use Rattle.calibration.proofs.write_pairs.Given as goal
 

@@ -1,5 +1,4 @@
 -- `packet_full::chunks_fit` meets its contract.
-use borrow.Author.Rules.{rules}
 use Rattle.packet_full.proofs.chunks_fit.Goals as goal
 
 pub returns : goal.returns

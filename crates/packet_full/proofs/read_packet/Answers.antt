@@ -7,7 +7,6 @@ use Rattle.packet_places.specs.Places.{find_places}
 use Rattle.packet_full.specs.Internal.{found_chunks}
 use Rattle.packet_full.proofs.Answers.{places_short, places_found, profile_there}
 use Rattle.packet_full.proofs.WithChunks.{chunk_room, tested, has_chunks, no_chunk_room, lists_refused, all_written}
-use borrow.Author.Rules.{rules}
 use Rattle.packet_full.proofs.read_packet.Goals as goal
 use Rattle.packet_full.proofs.read_packet.Goals.{After-chunks_fit}
 

@@ -1,12 +1,8 @@
 -- The invariant is `Writing`, and a turn writes one chunk.
 use mathlib.Core.Path.{◌≡◌, refl}
-use Prim.Native.Nat.{◌-◌}
 use native.Mathlib.Omega.{arith}
-use Rattle.parser.specs.Parser.{parse, repeat}
-use Rattle.packet_profile.specs.Profile.{chunk}
-use Rattle.packet_full.specs.Internal.{list_of, chunk_list}
-use Rattle.packet_full.proofs.Writing.{Writing, writing_none, signals_size, written_all, head_there, values_there, fits, turn_by}
-use borrow.Author.Rules.{rules}
+use Rattle.packet_full.specs.Internal.{chunk_list}
+use Rattle.packet_full.proofs.Writing.{writing_none, signals_size, written_all, head_there, values_there, fits, turn_by}
 use Rattle.packet_full.proofs.write_chunks.Goals as goal
 
 pub loop-i-init : goal.loop-i-init

@@ -1,6 +1,5 @@
 -- A packet without a profile has no chunks.
 use Rattle.lists.proofs.Laws.{over_none}
-use borrow.Author.Rules.{rules}
 use Rattle.packet_full.proofs.write_profile.Goals as goal
 
 pub write_chunks-requires : goal.write_chunks-requires

@@ -1,6 +1,5 @@
 -- `packet_header::fields` meets its contract: each field is the number at its place.
 use Rattle.packet_header.specs.Header.{header}
-use borrow.Author.Rules.{rules}
 use Rattle.packet_header.proofs.fields.Goals as goal
 
 pub returns : goal.returns

@@ -1,7 +1,6 @@
 -- One test decides.
 use native.Mathlib.Omega.{arith}
 use Rattle.packet_labels.proofs.Answers.{labels_short, labels_whole}
-use borrow.Author.Rules.{rules}
 use Rattle.packet_labels.proofs.read_labels.Goals as goal
 
 pub returns-then-descriptors-unknown : goal.returns-then-descriptors-unknown

@@ -2,7 +2,6 @@
 use Prim.Native.Nat.{◌*◌}
 use native.Mathlib.Omega.{arith}
 use Rattle.packet_noise.proofs.Nodes.{bytes_length}
-use borrow.Author.Rules.{rules}
 use Rattle.packet_noise.proofs.end_in.Goals as goal
 
 pub returns-then-n-left : goal.returns-then-n-left

@@ -2,7 +2,6 @@
 use Prim.Native.Nat.{◌*◌}
 use native.Mathlib.Omega.{arith}
 use Rattle.packet_noise.proofs.Nodes.{bytes_length, part_is}
-use borrow.Author.Rules.{rules}
 use Rattle.packet_noise.proofs.label_packet_peaks.Goals as goal
 
 pub slice_bounds-label_peaks-end : goal.slice_bounds-label_peaks-end

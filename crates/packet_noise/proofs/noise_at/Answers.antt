@@ -3,7 +3,6 @@ use mathlib.Core.Path.{◌∙◌}
 use Prim.Native.Nat.{◌*◌}
 use native.Mathlib.Omega.{arith}
 use Rattle.packet_noise.proofs.Nodes.{bytes_length, part_is}
-use borrow.Author.Rules.{rules}
 use Rattle.packet_noise.proofs.noise_at.Goals as goal
 
 pub slice_bounds-noise_at-end : goal.slice_bounds-noise_at-end

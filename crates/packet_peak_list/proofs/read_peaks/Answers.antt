@@ -2,7 +2,6 @@
 use native.Mathlib.Nat.{mul-le-mul_left}
 use native.Mathlib.Omega.{arith}
 use Rattle.packet_peak_list.proofs.Lists.{no_list, short_count, short_peaks, whole_list}
-use borrow.Author.Rules.{rules}
 use Rattle.packet_peak_list.proofs.read_peaks.Goals as goal
 
 pub returns-then-h-eq0 : goal.returns-then-h-eq0

@@ -3,7 +3,6 @@ use mathlib.Core.Path.{sym, ap, ◌∙◌}
 use Rattle.lists.proofs.Left.{left_refused, left_same}
 use Rattle.packet_peak_list.specs.PeakList.{outcome_of_skipped}
 use Rattle.packet_peak_list.proofs.Skipping.{peaks_only, peaks_only_short}
-use borrow.Author.Rules.{rules}
 use Rattle.packet_peak_list.proofs.read_peaks_only.Goals as goal
 
 pub returns-in-Refused : goal.returns-in-Refused

@@ -5,7 +5,6 @@ use Rattle.packet_header.specs.Header.{outcome_of}
 use Rattle.packet_header.proofs.Size.{header_read}
 use Rattle.packet_peak_list.specs.PeakList.{outcome_of_list}
 use Rattle.packet_peak_list.proofs.Skipping.{skip_header_short, skip_profile_short, skip_list_short, skip_found}
-use borrow.Author.Rules.{rules}
 use Rattle.packet_peak_list.proofs.skip_to_peaks.Goals as goal
 
 pub returns-in_default : goal.returns-in_default

@@ -5,7 +5,6 @@ use Rattle.packet_record.specs.Packet.{with_labels}
 use Rattle.refusal.specs.Outcome.{and_then}
 use Rattle.packet_places.specs.Internal.{outcome_of_profile, after_header}
 use Rattle.packet_places.proofs.Stages.{then_no_peaks, then_labels}
-use borrow.Author.Rules.{rules}
 use Rattle.packet_places.proofs.after_header.Goals as goal
 
 pub returns-in-Refused : goal.returns-in-Refused

@@ -6,7 +6,6 @@ use Rattle.refusal.specs.Outcome.{and_then}
 use Rattle.packet_record.specs.Packet.{outcome_of_packet_places}
 use Rattle.packet_places.specs.Internal.{after_header, in_turn}
 use Rattle.packet_places.proofs.Answers.{by_stages, no_packet}
-use borrow.Author.Rules.{rules}
 use Rattle.packet_places.proofs.find_places.Goals as goal
 
 pub after_header-requires : goal.after_header-requires

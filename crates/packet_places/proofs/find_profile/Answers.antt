@@ -2,7 +2,6 @@
 use mathlib.Core.Path.{sym, ap, ◌∙◌}
 use Rattle.packet_profile.specs.Profile.{outcome_of}
 use Rattle.packet_places.proofs.Stages.{no_profile, profile_short, profile_found}
-use borrow.Author.Rules.{rules}
 use Rattle.packet_places.proofs.find_profile.Goals as goal
 
 pub returns-then-h-eq0 : goal.returns-then-h-eq0

@@ -1,9 +1,8 @@
 -- `packet_profile::pass_chunks` meets its contract: a turn passes one chunk and counts its values (`WalkInvariant`). Four times the
 -- values are at most the place, so their number fits.
 use mathlib.Core.Path.{◌≡◌, ap, sym, ◌∙◌}
-use Prim.Native.Nat.{◌*◌, ◌-◌, ◌≤◌}
 use native.Mathlib.Omega.{arith}
-use Rattle.parser.proofs.Walk.{WalkInvariant, walk_none, walk_more}
+use Rattle.parser.proofs.Walk.{walk_none, walk_more}
 use Rattle.packet_profile.specs.Profile.{points as points_of, chunk, outcome_of_signal}
 use Rattle.packet_profile.proofs.Chunks.{list_short, list_all}
 use Rattle.packet_profile.proofs.Signals.{There, there, missing, points_at}

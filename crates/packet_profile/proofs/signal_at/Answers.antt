@@ -1,7 +1,6 @@
 -- `packet_profile::signal_at` meets its contract: each way out is decided by the tests that led there.
 use native.Mathlib.Omega.{arith}
 use Rattle.packet_profile.proofs.Signals.{no_head, no_signal, signal_there}
-use borrow.Author.Rules.{rules}
 use Rattle.packet_profile.proofs.signal_at.Goals as goal
 
 pub returns-then-remaining-head : goal.returns-then-remaining-head

@@ -4,7 +4,6 @@ use Rattle.refusal.specs.Outcome.{on_ok}
 use Rattle.packet_labels.specs.Labels.{Streams, outcome_of, streams_at}
 use Rattle.packet_labels.specs.declared.Labels.{Labels}
 use Rattle.packet_record.specs.Packet.{with_labels}
-use borrow.Author.Rules.{rules}
 use Rattle.packet_record.proofs.with_labels.Goals as goal
 
 pub returns-in-Refused : goal.returns-in-Refused

@@ -1,7 +1,6 @@
 -- Each list is copied by a call of its own.
 use native.Mathlib.Omega.{arith}
 use Rattle.packet_record.proofs.Writing.{all_written}
-use borrow.Author.Rules.{rules}
 use Rattle.packet_record.proofs.write_lists.Goals as goal
 
 pub returns : goal.returns

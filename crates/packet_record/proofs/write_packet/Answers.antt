@@ -4,7 +4,6 @@ use mathlib.Core.List.{[], ◌∷◌}
 use Rattle.lists.specs.Left.{fits, lengths}
 use Rattle.packet_record.specs.Packet.{contents_at, lists_of}
 use Rattle.packet_record.proofs.Writing.{tested, packet_refused, packet_written}
-use borrow.Author.Rules.{rules}
 use Rattle.packet_record.proofs.write_packet.Goals as goal
 use Rattle.packet_record.proofs.write_packet.Goals.{After-holds-3}
 

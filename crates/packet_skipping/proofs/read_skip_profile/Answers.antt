@@ -6,7 +6,6 @@ use Rattle.packet_labels.specs.Labels.{streams_at}
 use Rattle.packet_peak_list.specs.PeakList.{outcome_of_skipped}
 use Rattle.packet_record.specs.Packet.{outcome_of_packet_places}
 use Rattle.packet_skipping.proofs.Answers.{no_peaks, no_labels, whole_packet}
-use borrow.Author.Rules.{rules}
 use Rattle.packet_skipping.proofs.read_skip_profile.Goals as goal
 
 pub returns-in-Refused : goal.returns-in-Refused

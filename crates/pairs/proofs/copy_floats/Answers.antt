@@ -1,12 +1,11 @@
 -- `pairs::copy_floats` meets its contract. The invariant: the first i numbers are written, and the place is that of the next.
-use mathlib.Core.Path.{◌≡◌, ap, ◌∙◌}
-use Prim.Native.Nat.{◌+◌, ◌*◌, ◌-◌, ◌^◌, min}
+use mathlib.Core.Path.{ap, ◌∙◌}
+use Prim.Native.Nat.{◌+◌, ◌*◌}
 use native.Mathlib.Omega.{arith}
-use Rattle.lists.proofs.Laws.{Filling, fill_none, fill_more, fill_done}
+use Rattle.lists.proofs.Laws.{fill_none, fill_more, fill_done}
 use Rattle.reader.proofs.Copies.{next_place}
 use Rattle.pairs.specs.Internal.{float_at}
 use Rattle.pairs.proofs.PeakPairs.{float_saturated}
-use borrow.Author.Rules.{rules}
 use Rattle.pairs.proofs.copy_floats.Goals as goal
 
 pub loop-i-init : goal.loop-i-init

@@ -1,11 +1,9 @@
 -- `pairs::count_pairs` meets its contract: a turn passes one chunk and counts its values (`Counting`).
 use mathlib.Core.Path.{ap, sym, ◌∙◌}
-use Prim.Native.Nat.{◌-◌}
 use native.Mathlib.Omega.{arith}
 use Rattle.packet_profile.specs.Profile.{outcome_of_signal}
 use Rattle.packet_profile.proofs.Signals.{There, there, missing}
-use Rattle.pairs.proofs.Counting.{Counting, counting_first, counting_more, counting_short, counting_all}
-use borrow.Author.Rules.{rules}
+use Rattle.pairs.proofs.Counting.{counting_first, counting_more, counting_short, counting_all}
 use Rattle.pairs.proofs.count_pairs.Goals as goal
 use Rattle.pairs.proofs.count_pairs.Goals.{In-Signal}
 

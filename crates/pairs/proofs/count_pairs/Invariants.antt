@@ -1,11 +1,6 @@
 -- `pairs::count_pairs` meets its contract: a turn passes one chunk and counts its values (`Counting`).
-use mathlib.Core.Path.{ap, sym, ◌∙◌}
 use Prim.Native.Nat.{◌-◌}
-use native.Mathlib.Omega.{arith}
-use Rattle.packet_profile.specs.Profile.{outcome_of_signal}
-use Rattle.packet_profile.proofs.Signals.{There, there, missing}
-use Rattle.pairs.proofs.Counting.{Counting, counting_first, counting_more, counting_short, counting_all}
-use borrow.Author.Rules.{rules}
+use Rattle.pairs.proofs.Counting.{Counting}
 use Rattle.pairs.proofs.count_pairs.Given as goal
 
 abbrev pub invariant-loop-passed : goal.invariant-loop-passed

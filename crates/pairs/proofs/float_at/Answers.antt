@@ -1,7 +1,6 @@
 -- `pairs::float_at` meets its contract.
 use mathlib.Core.Path.{ap, ◌∙◌}
 use lib.Ieee.{binary32, binary64, of_bits}
-use borrow.Author.Rules.{rules}
 use Rattle.pairs.proofs.float_at.Goals as goal
 
 pub returns-then-wide : goal.returns-then-wide

@@ -8,7 +8,6 @@ use Rattle.lists.specs.Written.{over}
 use Rattle.lists.proofs.Left.{fits_true, pairs_no_room}
 use Rattle.calibration.proofs.Columns.{pairs_over}
 use Rattle.pairs.proofs.PeakPairs.{peak_masses, peak_intensities, length-peak_pairs}
-use borrow.Author.Rules.{rules}
 use Rattle.pairs.proofs.peak_pairs.Goals as goal
 
 pub copy_floats-requires : goal.copy_floats-requires

@@ -5,7 +5,6 @@ use lib.ListN.{length}
 use Rattle.lists.proofs.Left.{fits_true, pairs_no_room}
 use Rattle.calibration.proofs.Columns.{pairs_over}
 use Rattle.pairs.proofs.Writing.{counted}
-use borrow.Author.Rules.{rules}
 use Rattle.pairs.proofs.to_mz_intensity.Goals as goal
 
 pub write_pairs-requires : goal.write_pairs-requires

@@ -1,14 +1,13 @@
 -- The invariant: the first i masses are written, and the place is that of the next.
-use mathlib.Core.Path.{◌≡◌, ap, ◌∙◌}
-use Prim.Native.Nat.{◌+◌, ◌*◌, ◌-◌, ◌^◌, min}
+use mathlib.Core.Path.{ap, ◌∙◌}
+use Prim.Native.Nat.{◌+◌, ◌*◌}
 use native.Mathlib.Omega.{arith}
 use Rattle.parser.specs.Parser.{bytes, little_endian}
-use Rattle.lists.proofs.Laws.{Filling, fill_none, fill_more, fill_done, length-each}
+use Rattle.lists.proofs.Laws.{fill_none, fill_more, fill_done, length-each}
 use Rattle.lists.proofs.Left.{list_no_room, list_written}
 use Rattle.peaks.specs.Peaks.{widened_bits}
 use Rattle.reader.proofs.Words.{le_saturated}
 use Rattle.reader.proofs.Copies.{next_place}
-use borrow.Author.Rules.{rules}
 use Rattle.peaks.proofs.copy_widened.Goals as goal
 
 pub returns-then-n-out : goal.returns-then-n-out

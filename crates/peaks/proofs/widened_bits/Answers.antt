@@ -1,7 +1,6 @@
 -- `peaks::widened_bits` meets its contract.
 use mathlib.Core.Path.{ap, ◌∙◌}
 use lib.Ieee.{binary64, to_bits}
-use borrow.Author.Rules.{rules}
 use Rattle.peaks.proofs.widened_bits.Goals as goal
 
 pub returns : goal.returns

@@ -3,7 +3,6 @@ use mathlib.Core.Path.{ap, ◌∙◌}
 use native.Mathlib.Omega.{arith}
 use Rattle.lists.specs.Written.{fitting}
 use Rattle.peaks.proofs.Columns.{wide_masses, wide_abundances, narrow_masses, narrow_abundances}
-use borrow.Author.Rules.{rules}
 use Rattle.peaks.proofs.write_columns.Goals as goal
 
 pub returns-then-wide : goal.returns-then-wide

@@ -2,7 +2,6 @@
 use mathlib.Core.Path.{sym, ◌∙◌}
 use Rattle.lists.proofs.Left.{pairs_no_room, pairs_written}
 use Rattle.peaks.proofs.Columns.{length-peaks}
-use borrow.Author.Rules.{rules}
 use Rattle.peaks.proofs.write_peaks.Goals as goal
 
 pub returns-then-holds : goal.returns-then-holds

@@ -1,9 +1,8 @@
 -- `srm_channels::count_channels` meets its contract. The invariant: `count` places below i hold a channel.
 use mathlib.Core.Path.{sym, ◌∙◌}
-use Prim.Native.Nat.{◌-◌, ◌≤◌}
 use native.Mathlib.Omega.{arith}
-use Rattle.srm_channels.specs.Channels.{channel_test, channel_at, channels_in}
-use Rattle.srm_channels.proofs.Turns.{Counted, count_none, count_in, count_out, count_done}
+use Rattle.srm_channels.specs.Channels.{channels_in}
+use Rattle.srm_channels.proofs.Turns.{count_none, count_in, count_out, count_done}
 use borrow.Author.Rules.{rules}
 use Rattle.srm_channels.proofs.count_channels.Goals as goal
 use Rattle.srm_channels.proofs.count_channels.Goals.{then-is_channel, else-is_channel}

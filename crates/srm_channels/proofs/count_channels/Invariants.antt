@@ -1,11 +1,7 @@
 -- `srm_channels::count_channels` meets its contract. The invariant: `count` places below i hold a channel.
-use mathlib.Core.Path.{sym, ◌∙◌}
-use mathlib.Core.Logic.{⊎_elim}
 use Prim.Native.Nat.{◌-◌, ◌≤◌}
-use native.Mathlib.Omega.{arith}
-use Rattle.srm_channels.specs.Channels.{channel_test, channel_at, channels_in}
-use Rattle.srm_channels.proofs.Turns.{Counted, count_none, count_in, count_out, count_done}
-use borrow.Author.Rules.{rules}
+use Rattle.srm_channels.specs.Channels.{channel_test, channel_at}
+use Rattle.srm_channels.proofs.Turns.{Counted}
 use Rattle.srm_channels.proofs.count_channels.Given as goal
 
 abbrev pub invariant-loop-i : goal.invariant-loop-i

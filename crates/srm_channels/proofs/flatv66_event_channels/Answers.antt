@@ -1,7 +1,6 @@
 -- `srm_channels::flatv66_event_channels` meets its contract: both ways out are one law each.
 use mathlib.Core.Path.{◌≡◌, sym, ◌∙◌}
 use Rattle.srm_channels.proofs.Answers.{room_for, channels_room, channels_refused, channels_written}
-use borrow.Author.Rules.{rules}
 use Rattle.srm_channels.proofs.flatv66_event_channels.Goals as goal
 use Rattle.srm_channels.proofs.flatv66_event_channels.Goals.{After-holds-3}
 

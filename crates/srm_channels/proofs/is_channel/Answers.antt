@@ -1,7 +1,5 @@
 -- `srm_channels::is_channel` meets its contract: each way out says which tests held before it.
 use mathlib.Core.Path.{sym, ◌∙◌}
-use borrow.Author.Tests.{not-true, not-false}
-use borrow.Author.Rules.{rules}
 use Rattle.srm_transition.proofs.Constants.{is_10, is_3000}
 use Rattle.srm_channels.specs.Channels.{channel_test}
 use Rattle.srm_channels.proofs.Constants.{is_0, is_5, is_500, is_2000}

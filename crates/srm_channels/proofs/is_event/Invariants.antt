@@ -1,11 +1,8 @@
 -- `srm_channels::is_event` meets its contract. The invariant: none of the first k numbers is `id`.
-use mathlib.Core.Path.{◌≡◌, refl, sym, ◌∙◌}
+use mathlib.Core.Path.{◌≡◌}
 use Prim.Native.Nat.{◌-◌}
-use native.Mathlib.Omega.{arith}
 use lib.ListN.{length, drop}
 use Rattle.srm_channels.specs.Channels.{is_event}
-use Rattle.srm_channels.proofs.IsEvent.{event_here, event_later, event_none}
-use borrow.Author.Rules.{rules}
 use Rattle.srm_channels.proofs.is_event.Given as goal
 
 abbrev pub invariant-loop-k : goal.invariant-loop-k

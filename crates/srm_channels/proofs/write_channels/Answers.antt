@@ -1,11 +1,11 @@
 -- `srm_channels::write_channels` meets its contract. The invariant: the channels at places below i are written, `written` of them.
 use mathlib.Core.Path.{◌≡◌, ap, sym, ◌∙◌}
 use mathlib.Core.Bool.{true}
-use Prim.Native.Nat.{◌-◌, ◌≤◌, ◌<◌}
+use Prim.Native.Nat.{◌<◌}
 use native.Mathlib.Omega.{arith}
 use lib.ListN.{length}
-use Rattle.srm_channels.specs.Channels.{channel_test, channel_at, channels_in}
-use Rattle.srm_channels.proofs.Turns.{Counted, count_none, count_in, count_out, count_room, Written, write_none, write_in, write_out, write_done}
+use Rattle.srm_channels.specs.Channels.{channels_in}
+use Rattle.srm_channels.proofs.Turns.{count_none, count_in, count_out, count_room, write_none, write_in, write_out, write_done}
 use Rattle.srm_channels.proofs.Answers.{channel_event}
 use borrow.Author.Rules.{rules}
 use Rattle.srm_channels.proofs.write_channels.Goals as goal

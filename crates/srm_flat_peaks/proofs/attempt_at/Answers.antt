@@ -2,7 +2,6 @@
 use mathlib.Core.Path.{sym, ◌∙◌}
 use native.Mathlib.Omega.{arith}
 use Rattle.srm_flat_peaks.proofs.Attempts.{too_few, too_long, runs_out, plausible_first, implausible_first}
-use borrow.Author.Rules.{rules}
 use Rattle.srm_flat_peaks.proofs.attempt_at.Goals as goal
 
 pub returns-then-data_size-subtract : goal.returns-then-data_size-subtract

@@ -2,7 +2,6 @@
 use mathlib.Core.Path.{refl, sym, ◌∙◌}
 use Rattle.srm_flat_peaks.specs.declared.AttemptAnswer.TheVariants.{Accepted, PassedOver, RanOut}
 use Rattle.srm_flat_peaks.proofs.Answers.{by_both}
-use borrow.Author.Rules.{rules}
 use Rattle.srm_flat_peaks.proofs.attempts_at.Goals as goal
 
 pub returns-in-Accepted : goal.returns-in-Accepted

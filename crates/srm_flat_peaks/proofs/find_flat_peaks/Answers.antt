@@ -3,7 +3,6 @@ use mathlib.Core.Path.{sym, ◌∙◌}
 use native.Mathlib.Omega.{arith}
 use Rattle.srm_flat_peaks.specs.declared.AttemptAnswer.TheVariants.{Accepted, PassedOver, RanOut}
 use Rattle.srm_flat_peaks.proofs.Answers.{no_peaks, by_attempts}
-use borrow.Author.Rules.{rules}
 use Rattle.srm_flat_peaks.proofs.find_flat_peaks.Goals as goal
 
 pub returns-then-data_size-le1 : goal.returns-then-data_size-le1

@@ -1,6 +1,5 @@
 -- `srm_flat_peaks::is_plausible` meets its contract: each way through the tests says which held on it.
 use Rattle.srm_flat_peaks.proofs.Constants.{is_0, is_10, is_10000}
-use borrow.Author.Rules.{rules}
 use Rattle.srm_flat_peaks.proofs.is_plausible.Goals as goal
 
 pub returns-then-mz : goal.returns-then-mz

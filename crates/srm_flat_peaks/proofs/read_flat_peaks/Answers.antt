@@ -3,7 +3,6 @@ use mathlib.Core.Path.{sym, ap, ◌∙◌}
 use Rattle.lists.proofs.Left.{left_refused, left_same}
 use Rattle.peaks.specs.Peaks.{outcome_of_place}
 use Rattle.srm_flat_peaks.proofs.Answers.{read_found, read_refused}
-use borrow.Author.Rules.{rules}
 use Rattle.srm_flat_peaks.proofs.read_flat_peaks.Goals as goal
 
 pub returns-in-Refused : goal.returns-in-Refused

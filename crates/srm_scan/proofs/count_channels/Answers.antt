@@ -2,7 +2,6 @@
 use native.Mathlib.Nat.{mul-le-mul_left}
 use native.Mathlib.Omega.{arith}
 use Rattle.srm_scan.proofs.Counting.{no_count, no_channels, short_table, whole_table}
-use borrow.Author.Rules.{rules}
 use Rattle.srm_scan.proofs.count_channels.Goals as goal
 
 pub returns-then-n-eq0 : goal.returns-then-n-eq0

@@ -6,7 +6,6 @@ use Rattle.refusal.specs.Number.{outcome_of_count}
 use Rattle.srm_scan.specs.Internal.{channels}
 use Rattle.srm_scan.proofs.Counting.{channels_there}
 use Rattle.srm_scan.proofs.Answers.{found, find_refused}
-use borrow.Author.Rules.{rules}
 use Rattle.srm_scan.proofs.find_srm_peaks.Goals as goal
 use Rattle.srm_scan.proofs.find_srm_peaks.Goals.{In-Count}
 

@@ -3,7 +3,6 @@ use mathlib.Core.Path.{sym, ap, ◌∙◌}
 use Rattle.lists.proofs.Left.{left_refused, left_same}
 use Rattle.peaks.specs.Peaks.{outcome_of_place}
 use Rattle.srm_scan.proofs.Answers.{read_found, read_refused}
-use borrow.Author.Rules.{rules}
 use Rattle.srm_scan.proofs.read_scan_srm_v66.Goals as goal
 
 pub returns-in-Refused : goal.returns-in-Refused

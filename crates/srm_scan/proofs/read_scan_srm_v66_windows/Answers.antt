@@ -7,7 +7,6 @@ use Rattle.lists.proofs.Left.{left_refused, left_same}
 use Rattle.srm_scan.specs.Internal.{channels}
 use Rattle.srm_scan.proofs.Counting.{channels_there}
 use Rattle.srm_scan.proofs.Answers.{windows_there, no_windows}
-use borrow.Author.Rules.{rules}
 use Rattle.srm_scan.proofs.read_scan_srm_v66_windows.Goals as goal
 use Rattle.srm_scan.proofs.read_scan_srm_v66_windows.Goals.{In-Count}
 

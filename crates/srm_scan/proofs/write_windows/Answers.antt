@@ -2,7 +2,6 @@
 use mathlib.Core.Path.{sym, ◌∙◌}
 use Rattle.lists.proofs.Left.{pairs_no_room, pairs_written}
 use Rattle.srm_scan.proofs.Room.{length-windows, low_column, high_column}
-use borrow.Author.Rules.{rules}
 use Rattle.srm_scan.proofs.write_windows.Goals as goal
 
 pub returns-then-holds : goal.returns-then-holds

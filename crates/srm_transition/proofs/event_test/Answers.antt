@@ -1,7 +1,6 @@
 -- `srm_transition::event_test` meets its contract: each way out says which tests held before it.
 use mathlib.Core.Path.{sym, ◌∙◌}
-use borrow.Author.Tests.{not-true, not-false, eq-eqb, ne_eqb}
-use borrow.Author.Rules.{rules}
+use borrow.Author.Tests.{eq-eqb, ne_eqb}
 use Rattle.srm_transition.specs.Transition.{event_test}
 use Rattle.srm_transition.proofs.Constants.{is_10, is_3000}
 use Rattle.srm_transition.proofs.event_test.Goals as goal

@@ -1,5 +1,4 @@
 -- `srm_transition::f64_at` meets its contract.
-use borrow.Author.Rules.{rules}
 use Rattle.srm_transition.proofs.f64_at.Goals as goal
 
 pub returns : goal.returns

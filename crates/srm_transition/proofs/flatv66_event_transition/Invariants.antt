@@ -1,12 +1,10 @@
 -- `srm_transition::flatv66_event_transition` meets its contract. The invariant: no place before i passed, so the search goes on from i.
-use mathlib.Core.Path.{◌≡◌, refl, sym, ◌∙◌}
+use mathlib.Core.Path.{◌≡◌}
 use Prim.Native.Nat.{◌-◌, ◌≤◌}
-use native.Mathlib.Omega.{arith}
 use lib.ListN.{length}
 use Rattle.srm_transition.specs.Transition.{event_test, event_transition_at, flatv66_event_transition}
 use Rattle.srm_transition.specs.declared.EventTransitionAnswer.TheVariants.{None, Found}
-use Rattle.srm_transition.proofs.Places.{first, first_here, first_later, first_none}
-use borrow.Author.Rules.{rules}
+use Rattle.srm_transition.proofs.Places.{first}
 use Rattle.srm_transition.proofs.flatv66_event_transition.Given as goal
 
 abbrev pub invariant-loop-i : goal.invariant-loop-i

@@ -1,5 +1,4 @@
 -- `srm_transition::is_near` meets its contract.
-use borrow.Author.Rules.{rules}
 use Rattle.srm_transition.proofs.Constants.{is_0_002}
 use Rattle.srm_transition.proofs.is_near.Goals as goal
 

@@ -1,11 +1,9 @@
 -- `srm_transition::search_v63_transition` meets its contract. The invariant: no place before j passed, so the search goes on from j.
-use mathlib.Core.Path.{◌≡◌, refl, sym, ap, ◌∙◌}
-use Prim.Native.Nat.{◌-◌, ◌≤◌}
+use mathlib.Core.Path.{refl, sym, ap, ◌∙◌}
 use native.Mathlib.Omega.{arith}
-use lib.ListN.{length}
-use Rattle.srm_transition.specs.Transition.{v63_test, v63_at, search_v63_transition}
-use Rattle.srm_transition.specs.declared.TransitionAnswer.TheVariants.{None, Found}
-use Rattle.srm_transition.proofs.Places.{first, first_here, first_later, first_none}
+use Rattle.srm_transition.specs.Transition.{search_v63_transition}
+use Rattle.srm_transition.specs.declared.TransitionAnswer.TheVariants.{Found}
+use Rattle.srm_transition.proofs.Places.{first_here, first_later, first_none}
 use borrow.Author.Rules.{rules}
 use Rattle.srm_transition.proofs.search_v63_transition.Goals as goal
 

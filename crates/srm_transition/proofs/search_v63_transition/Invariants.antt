@@ -1,12 +1,10 @@
 -- `srm_transition::search_v63_transition` meets its contract. The invariant: no place before j passed, so the search goes on from j.
-use mathlib.Core.Path.{◌≡◌, refl, sym, ap, ◌∙◌}
+use mathlib.Core.Path.{◌≡◌}
 use Prim.Native.Nat.{◌-◌, ◌≤◌}
-use native.Mathlib.Omega.{arith}
 use lib.ListN.{length}
 use Rattle.srm_transition.specs.Transition.{v63_test, v63_at, search_v63_transition}
 use Rattle.srm_transition.specs.declared.TransitionAnswer.TheVariants.{None, Found}
-use Rattle.srm_transition.proofs.Places.{first, first_here, first_later, first_none}
-use borrow.Author.Rules.{rules}
+use Rattle.srm_transition.proofs.Places.{first}
 use Rattle.srm_transition.proofs.search_v63_transition.Given as goal
 
 abbrev pub invariant-loop-j : goal.invariant-loop-j

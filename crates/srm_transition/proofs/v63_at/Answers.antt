@@ -1,5 +1,4 @@
 -- `srm_transition::v63_at` meets its contract.
-use borrow.Author.Rules.{rules}
 use Rattle.srm_transition.proofs.v63_at.Goals as goal
 
 pub returns : goal.returns

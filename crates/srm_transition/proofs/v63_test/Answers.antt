@@ -1,7 +1,5 @@
 -- `srm_transition::v63_test` meets its contract: each way out says which tests held before it.
 use mathlib.Core.Path.{sym, ◌∙◌}
-use borrow.Author.Tests.{not-true, not-false}
-use borrow.Author.Rules.{rules}
 use Rattle.srm_transition.specs.Transition.{v63_test}
 use Rattle.srm_transition.proofs.Constants.{is_0_002, is_0_01, is_0_1, is_10, is_50, is_300, is_3000}
 use Rattle.srm_transition.proofs.v63_test.Goals as goal

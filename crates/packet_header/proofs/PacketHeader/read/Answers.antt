@@ -1,7 +1,6 @@
 -- `PacketHeader::read` meets its contract: a header is one test, and a value, which `fields` returns.
 use native.Mathlib.Omega.{arith}
 use Rattle.packet_header.proofs.Size.{header_short, header_whole}
-use borrow.Author.Rules.{rules}
 use Rattle.packet_header.proofs.PacketHeader.read.Goals as goal
 
 pub returns-then-remaining-ge40 : goal.returns-then-remaining-ge40

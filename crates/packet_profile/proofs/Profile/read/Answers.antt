@@ -2,7 +2,6 @@
 use mathlib.Core.Path.{sym, ◌∙◌}
 use native.Mathlib.Omega.{arith}
 use Rattle.packet_profile.proofs.Answers.{short_axis, short_count, short_chunks, whole_profile}
-use borrow.Author.Rules.{rules}
 use Rattle.packet_profile.proofs.Profile.read.Goals as goal
 
 pub returns-then-remaining-lt24 : goal.returns-then-remaining-lt24
