@@ -1,6 +1,5 @@
 -- `listing_lines::append` meets its contract.
 use Rattle.listing_lines.proofs.Places.{append_one, append_beyond}
-use borrow.Author.Rules.{rules}
 use Rattle.listing_lines.proofs.append.Goals as goal
 
 pub returns-then-at-out : goal.returns-then-at-out

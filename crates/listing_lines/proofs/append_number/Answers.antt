@@ -1,6 +1,5 @@
 -- `listing_lines::append_number` meets its contract.
 use Rattle.listing_lines.proofs.Places.{append_then}
-use borrow.Author.Rules.{rules}
 use Rattle.listing_lines.proofs.append_number.Goals as goal
 
 pub returns : goal.returns

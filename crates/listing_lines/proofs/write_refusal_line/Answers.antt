@@ -11,7 +11,6 @@ use Rattle.listing_lines.specs.Lines.{decimal, line, part_in, refusal_line}
 use Rattle.listing_lines.specs.Internal.{Appends}
 use Rattle.listing_lines.proofs.Places.{Made, append_made}
 use Rattle.listing_lines.proofs.Room.{refusal_room}
-use borrow.Author.Rules.{rules}
 use Rattle.listing_lines.proofs.write_refusal_line.Goals as goal
 
 -- the line, with the numbers that the calls answer

@@ -8,7 +8,6 @@ use Rattle.listing_lines.specs.Lines.{decimal, line, tray_line}
 use Rattle.listing_lines.specs.Internal.{Appends}
 use Rattle.listing_lines.proofs.Places.{Made, append_made}
 use Rattle.listing_lines.proofs.Room.{tray_room}
-use borrow.Author.Rules.{rules}
 use Rattle.listing_lines.proofs.write_tray_line.Goals as goal
 
 made : {version scans n : ℕ} {X : List ℕ} → Appends (line (ascii "T" ∷ decimal version ∷ decimal scans ∷ [])) 0 (replicate 64 0) n X → version < 2 ^ 32 → scans < 2 ^ 32
