@@ -1,6 +1,5 @@
 -- `listing_pairs::is_listed` meets its contract, format by format.
 use lib.Ieee.{of_bits}
-use borrow.Author.Rules.{rules}
 use Rattle.listing_pairs.proofs.is_listed.Goals as goal
 
 pub returns-in-PacketHeader : goal.returns-in-PacketHeader

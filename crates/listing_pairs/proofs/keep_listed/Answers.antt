@@ -1,15 +1,12 @@
 -- `listing_pairs::keep_listed` meets its contract. The invariant: those listed among the first i pairs stand at the fronts.
 use mathlib.Core.Path.{sym, ap, ◌∙◌}
-use mathlib.Core.Logic.{⊎_elim}
-use Prim.Native.Nat.{◌-◌, ◌≤◌, ◌<◌}
+use Prim.Native.Nat.{◌<◌}
 use native.Mathlib.Omega.{arith}
 use lib.ListN.{length}
-use lib.Ieee.{nan}
 use Rattle.listing_pairs.specs.Listed.{is_listed}
-use Rattle.listing_pairs.proofs.Keeping.{Keeping, keep_none, next_mass, keep_in, keep_out, keep_all}
-use borrow.Author.Rules.{rules}
+use Rattle.listing_pairs.proofs.Keeping.{keep_none, next_mass, keep_in, keep_out, keep_all}
 use Rattle.listing_pairs.proofs.keep_listed.Goals as goal
-use Rattle.listing_pairs.proofs.keep_listed.Goals.{In-loop-i}
+use Rattle.listing_pairs.proofs.keep_listed.Goals.{In-loop-i, then-is_listed, else-is_listed}
 
 pub loop-i-init : goal.loop-i-init
 loop-i-init c = (keep_none _ _ _ _, omega arith)
@@ -41,10 +38,12 @@ pub loop-i-preserved : goal.loop-i-preserved
 loop-i-preserved c =
     let inv = c.loop-i.invariant.0 in
     let says = sym (c.is_listed.ensures ∙ ap (is_listed c.args.format) (next_mass _ _ _ _ inv)) in
-    ⊎_elim
-    (λ w. (rw (w.3, w.4, w.5) (keep_in _ _ _ _ inv (says ∙ w.0.taken) (omega (arith, in_masses (goal.at.loop-i-preserved c).In-loop-i, inv.same_masses)) (omega (arith, in_intensities (goal.at.loop-i-preserved c).In-loop-i, inv.same_intensities))), omega arith))
-    (λ w. (rw (w.1, w.2, w.3) (keep_out _ _ _ _ inv (says ∙ w.0.left)), omega arith))
-    c.if-is_listed.branch
+    let m = in_masses (goal.at.loop-i-preserved c).In-loop-i in
+    let x = in_intensities (goal.at.loop-i-preserved c).In-loop-i in
+    elim c.if-is_listed.branch [
+      | then-is_listed w ↦ (rw (w.mz-is, w.intensity-is, w.kept-is) (keep_in _ _ _ _ inv (says ∙ w.if-is_listed.true) (omega (arith, m, inv.same_masses)) (omega (arith, x, inv.same_intensities))), omega arith)
+      | else-is_listed w ↦ (rw (w.mz-is, w.intensity-is, w.kept-is) (keep_out _ _ _ _ inv (says ∙ w.if-is_listed.false)), omega arith)
+    ]
 
 pub shape_of-mz : goal.shape_of-mz
 shape_of-mz c = c.loop-i.invariant.0.same_masses
@@ -53,4 +52,6 @@ pub shape_of-intensity : goal.shape_of-intensity
 shape_of-intensity c = c.loop-i.invariant.0.same_intensities
 
 pub returns : goal.returns
-returns c = keep_all _ _ _ _ c.loop-i.invariant.0 (omega (arith, c.loop-i-test.false, c.loop-i.invariant.1, c.smaller-pairs.ensures))
+returns c =
+    let all = keep_all _ _ _ _ c.loop-i.invariant.0 (omega (arith, c.loop-i-test.false, c.loop-i.invariant.1, c.smaller-pairs.ensures)) in
+    record { value = all.0; intensity_after = all.1 }

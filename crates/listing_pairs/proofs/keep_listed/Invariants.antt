@@ -1,13 +1,7 @@
 -- `listing_pairs::keep_listed` meets its contract. The invariant: those listed among the first i pairs stand at the fronts.
-use mathlib.Core.Path.{sym, ap, ◌∙◌}
-use mathlib.Core.Logic.{⊎_elim}
-use Prim.Native.Nat.{◌-◌, ◌≤◌, ◌<◌}
-use native.Mathlib.Omega.{arith}
-use lib.ListN.{length}
+use Prim.Native.Nat.{◌-◌, ◌≤◌}
 use lib.Ieee.{nan}
-use Rattle.listing_pairs.specs.Listed.{is_listed}
-use Rattle.listing_pairs.proofs.Keeping.{Keeping, keep_none, next_mass, keep_in, keep_out, keep_all}
-use borrow.Author.Rules.{rules}
+use Rattle.listing_pairs.proofs.Keeping.{Keeping}
 use Rattle.listing_pairs.proofs.keep_listed.Given as goal
 
 abbrev pub invariant-loop-i : goal.invariant-loop-i
