@@ -1,6 +1,6 @@
 -- Data that were found are what their parser finds, and a refusal is its refusal, whatever follows.
 use mathlib.Core.Path.{◌≡◌, refl, ap, sym, ◌∙◌}
-use Prim.Native.Nat.{ℕ, ◌+◌, ◌-◌}
+use Prim.Native.Nat.{ℕ, ◌+◌}
 use mathlib.Core.Bool.{false}
 use mathlib.Core.List.{List}
 use lib.ListN.{length}
@@ -55,7 +55,7 @@ module _ (s : List ℕ) (at : ℕ) (h : head.PacketHeader) where
 packet_content : (s : List ℕ) (at : ℕ) {v : PacketPlaces} (t : Standing s at v) → content_at (packet_data v.profile v) s ≡ content_of t.stands.packet.profile t.stands.packet.contents.peaks
 packet_content s at {v} t =
     ap (λ p. content_at (packet_data p v) s) t.is
-    ∙ content_is s at t.header t.profile t.next t.profile-there v
+    ∙ content_is s at t.header t.profile t.next t.profile_there v
     ∙ rw (t.stands.profile_is, ← t.stands.contents)
 
 -- ---- any data
@@ -69,7 +69,7 @@ module _ (place offset size : ℕ) (s : List ℕ) where
       let v = m.value.0 in
       let t = standing s (data_start place offset) m.is in
       let same = m.made ∙ ap (λ p. packet_data p v) t.is in
-      rw same (count_is s (data_start place offset) t.header t.profile t.next t.profile-there v coefficients)
+      rw same (count_is s (data_start place offset) t.header t.profile t.next t.profile_there v coefficients)
   data_count FlatV63 e coefficients =
       let m = made_of (narrow_peaks 8) (find_flat_peaks place offset size s) e in
       rw m.made (length-peak_pairs false 8 s m.value.0 m.value.1)

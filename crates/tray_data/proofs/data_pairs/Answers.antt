@@ -1,7 +1,6 @@
 -- `tray_data::data_pairs` meets its contract: a profile's pairs or those of peaks.
 use Rattle.pairs.specs.Pairs.{profile_pairs}
 use Rattle.tray_data.specs.Data.{pairs}
-use borrow.Author.Rules.{rules}
 use Rattle.tray_data.proofs.data_pairs.Goals as goal
 
 pub returns-in-Profile : goal.returns-in-Profile

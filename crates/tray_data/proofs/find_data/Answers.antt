@@ -5,7 +5,6 @@ use Rattle.packet_record.specs.Packet.{Contents}
 use Rattle.packet_record.specs.declared.PacketPlaces.{PacketPlaces}
 use Rattle.packet_places.specs.Places.{find_places}
 use Rattle.tray_data.specs.Data.{packet_data, narrow_peaks, find_data}
-use borrow.Author.Rules.{rules}
 use Rattle.tray_data.proofs.find_data.Goals as goal
 
 pub returns-in-PacketHeader : goal.returns-in-PacketHeader

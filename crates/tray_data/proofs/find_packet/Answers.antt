@@ -4,7 +4,6 @@ use Rattle.refusal.specs.Outcome.{ok, on_ok}
 use Rattle.packet_record.specs.Packet.{Contents, contents_at, outcome_of_packet_places}
 use Rattle.packet_record.specs.declared.PacketPlaces.{PacketPlaces}
 use Rattle.tray_data.specs.Data.{packet_data}
-use borrow.Author.Rules.{rules}
 use Rattle.tray_data.proofs.find_packet.Goals as goal
 
 pub returns-in-Refused : goal.returns-in-Refused

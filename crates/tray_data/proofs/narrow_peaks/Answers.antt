@@ -3,7 +3,6 @@ use mathlib.Core.Path.{sym, ap}
 use Rattle.refusal.specs.Outcome.{on_ok}
 use Rattle.peaks.specs.Peaks.{outcome_of_place}
 use Rattle.tray_data.specs.Data.{narrow_peaks}
-use borrow.Author.Rules.{rules}
 use Rattle.tray_data.proofs.narrow_peaks.Goals as goal
 
 pub returns-in-Refused : goal.returns-in-Refused

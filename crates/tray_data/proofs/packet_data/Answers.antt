@@ -2,7 +2,6 @@
 use mathlib.Core.Path.{◌≡◌, sym, ap}
 use Rattle.packet_peak_list.specs.PeakList.{item_size}
 use Rattle.tray_data.specs.Data.{packet_data}
-use borrow.Author.Rules.{rules}
 use Rattle.tray_data.proofs.packet_data.Goals as goal
 
 pub returns-in-Present : goal.returns-in-Present

@@ -3,7 +3,6 @@ use native.Mathlib.Omega.{arith}
 use borrow.Author.Tests.{le-leb, lt-leb}
 use Rattle.tray_header.specs.Header.{judged}
 use Rattle.tray_header.proofs.Answers.{short_header, whole_header}
-use borrow.Author.Rules.{rules}
 use Rattle.tray_header.proofs.read_tray_header.Goals as goal
 
 pub returns-then-remaining-lt32 : goal.returns-then-remaining-lt32
