@@ -1,7 +1,6 @@
 -- The run's format goes by the header.
 use mathlib.Core.Path.{ap, ◌∙◌}
 use Rattle.tray_data.specs.Data.{find_data}
-use borrow.Author.Rules.{rules}
 use Rattle.tray_scan.proofs.data_of.Goals as goal
 
 pub returns : goal.returns

@@ -7,18 +7,18 @@ use Rattle.scan_index.specs.Entry.{read_entry}
 use Rattle.scan_index.proofs.Size.{entry_most}
 use borrow.Author.Rules.{rules}
 use Rattle.tray_scan.proofs.entry_of.Goals as goal
-use Rattle.tray_scan.proofs.entry_of.Goals.{After-struct_known-1}
+use Rattle.tray_scan.proofs.entry_of.Goals.{After-min_size_for_version-size}
 
-small : (c : After-struct_known-1) → c.args.k * c.min_size_for_version-size.result < 2 ^ 39
+small : (c : After-min_size_for_version-size) → c.args.k * c.min_size_for_version-size.result < 2 ^ 39
 small c =
     let few : c.min_size_for_version-size.result ≤ 88 = rw c.min_size_for_version-size.ensures (entry_most c.args.h.version) in
     omega (arith, mul-le-mul_left c.args.k few)
 
 pub overflow_mul-k : goal.overflow_mul-k
-overflow_mul-k c = omega (arith, small (goal.at.overflow_mul-k c).After-struct_known-1)
+overflow_mul-k c = omega (arith, small (goal.at.overflow_mul-k c).After-min_size_for_version-size)
 
 pub overflow_add-h : goal.overflow_add-h
-overflow_add-h c = omega (arith, small (goal.at.overflow_add-h c).After-struct_known-1)
+overflow_add-h c = omega (arith, small (goal.at.overflow_add-h c).After-min_size_for_version-size)
 
 pub returns : goal.returns
 returns c =

@@ -21,4 +21,5 @@ returns-in-Refused-data_of c =
 
 pub returns-in-Data : goal.returns-in-Data
 returns-in-Data c =
-    let found = sym (ap outcome_of_data c.before.«data».given.1) ∙ c.data_of.ensures in record { result_value = all_there _ _ _ _ (sym (ap outcome_of c.in-Entry.is) ∙ c.entry_of.ensures) (sym (ap (event_found c.args.run.now) c.in-At.is)) found; count_holds_in = data_count _ _ _ _ _ found }
+    let found = sym (ap outcome_of_data c.in-Data.is) ∙ c.data_of.ensures in
+    record { result_value = all_there _ _ _ _ (sym (ap outcome_of c.in-Entry.is) ∙ c.entry_of.ensures) (sym (ap (event_found c.args.run.now) c.in-At.is)) found; count_holds_in = data_count _ _ _ _ _ found }

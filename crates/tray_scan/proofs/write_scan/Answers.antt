@@ -1,5 +1,6 @@
 -- The room for the pairs, the event, and then the pairs.
 use mathlib.Core.Path.{◌≡◌, sym, ap}
+use Prim.Native.Nat.{◌≤◌}
 use native.Mathlib.Omega.{arith}
 use mathlib.Core.Bool.{true}
 use mathlib.Core.List.{[], ◌∷◌}
@@ -9,29 +10,32 @@ use Rattle.event_record.specs.Event.{outcome_of}
 use Rattle.tray_scan.proofs.Writing.{no_pairs, no_lists, within, all_written}
 use borrow.Author.Rules.{rules}
 use Rattle.tray_scan.proofs.write_scan.Goals as goal
-use Rattle.tray_scan.proofs.write_scan.Goals.{Then-holds}
+use Rattle.tray_scan.proofs.write_scan.Goals.{In-Event}
 
 -- the test is one of both slices of the pairs
-room : ((PLACE Then-holds) : Then-holds)
-    → let a = t.args in
-    fits (t.pair_count-pairs.result ∷ t.pair_count-pairs.result ∷ []) (length a.mz.now ∷ length a.intensity.now ∷ []) ≡ true
-room t = rw (← t.holds.ensures, ← t.holds-2.ensures) t.if-holds.true
+room : (c : In-Event)
+    → let a = c.args in
+    fits (c.pair_count-pairs.result ∷ c.pair_count-pairs.result ∷ []) (length a.mz.now ∷ length a.intensity.now ∷ []) ≡ true
+room c = rw (← c.holds.ensures, ← c.holds-2.ensures) c.if-holds.true
+
+-- the coefficients that were written stand at the front of their slice
+front : (c : In-Event) → c.in-Event.read.event.coefficients ≤ length c.write_event.new.coefficients
+front c =
+    within c.args.run.now c.args.p c.requires c.pair_count-pairs.ensures _ _ _ _ c.args.mz.now c.args.intensity.now (room c) (rw (ap outcome_of c.in-Event.is) at c.write_event.ensures)
 
 pub slice_bounds-data_pairs-end : goal.slice_bounds-data_pairs-end
-slice_bounds-data_pairs-end c =
-    within c.args.run.now c.args.p c.requires c.pair_count-pairs.ensures _ _ _ _ c.args.mz.now c.args.intensity.now (room (goal.at.slice_bounds-data_pairs-end c).Then-holds) (rw (ap outcome_of c.in-Event.is) at c.write_event.ensures)
+slice_bounds-data_pairs-end c = front (goal.at.slice_bounds-data_pairs-end c).In-Event
 
 pub slice_bounds-data_pairs-end-in-Event : goal.slice_bounds-data_pairs-end-in-Event
-slice_bounds-data_pairs-end-in-Event c = sym (simp length-take (omega (arith, slice-reshare-prefix-data-pairs (goal.at.slice_bounds-data_pairs-end-in-Event c).In-Event)))
+slice_bounds-data_pairs-end-in-Event c = sym (simp length-take (omega (arith, front (goal.at.slice_bounds-data_pairs-end-in-Event c).In-Event)))
 
 pub returns-in-Refused : goal.returns-in-Refused
 returns-in-Refused c =
-    no_lists c.args.run.now c.args.p c.requires c.pair_count-pairs.ensures _ _ _ _ _ _ (room (goal.at.returns-in-Refused c).Then-holds) (rw (ap outcome_of c.in-Refused.is) at c.write_event.ensures)
+    no_lists c.args.run.now c.args.p c.requires c.pair_count-pairs.ensures _ _ _ _ _ _ (rw (← c.holds.ensures, ← c.holds-2.ensures) c.if-holds.true) (rw (ap outcome_of c.in-Refused.is) at c.write_event.ensures)
 
 pub returns-in-Event : goal.returns-in-Event
 returns-in-Event c =
-    let start = t.before.before.before.before.before.before.before.before.before.before.before.before.before in
-    all_written start.args.run.now start.args.p start.requires t.before.before.before.pair-count.ensures _ _ _ _ _ _ (room (goal.at.returns-in-Event c).Then-holds) (rw (ap outcome_of c.before.before.before.before.before.before.before.before.before.before.read.given.1) at w.write-event.ensures) c.data_pairs.ensures
+    all_written c.args.run.now c.args.p c.requires c.pair_count-pairs.ensures _ _ _ _ _ _ (room (goal.at.returns-in-Event c).In-Event) (rw (ap outcome_of c.in-Event.is) at c.write_event.ensures) c.data_pairs.ensures
 
 pub returns : goal.returns
 returns c =
