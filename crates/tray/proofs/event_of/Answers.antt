@@ -6,7 +6,6 @@ use Rattle.events.specs.Event.{event_place}
 use Rattle.tray_header.specs.Header.{outcome_of}
 use Rattle.tray.specs.Scan.{header_with, event_of}
 use Rattle.tray.proofs.Headers.{with_size, with_few, run_is}
-use borrow.Author.Rules.{rules}
 use Rattle.tray.proofs.event_of.Goals as goal
 use Rattle.tray.proofs.event_of.Goals.{In-Header}
 

@@ -2,7 +2,6 @@
 use mathlib.Core.Path.{sym, ap, ◌∙◌}
 use Rattle.tray_header.specs.Header.{outcome_of}
 use Rattle.tray.proofs.Headers.{no_header, no_scan, has_scan}
-use borrow.Author.Rules.{rules}
 use Rattle.tray.proofs.header_with.Goals as goal
 
 pub returns-then-k-h : goal.returns-then-k-h

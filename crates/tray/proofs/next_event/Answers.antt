@@ -7,7 +7,6 @@ use Rattle.tray_header.proofs.Found.{whole}
 use Rattle.tray_scan.specs.Scan.{end_in}
 use Rattle.tray.specs.Scan.{next_event}
 use Rattle.tray.proofs.Headers.{run_is}
-use borrow.Author.Rules.{rules}
 use Rattle.tray.proofs.next_event.Goals as goal
 use Rattle.tray.proofs.next_event.Goals.{In-Header}
 
