@@ -71,6 +71,6 @@ scan_fits h k at s small {v} e =
     let some = listed_length (format_in h) v.2 in
     let m = length-map ps (λ (x : Pair). x.0) in
     let i = length-map ps (λ (x : Pair). x.1) in
-    let few : min (length (firsts ps)) (length (seconds ps)) < 2 ^ 64 = omega (arith, m, i, some, w.in-mz) in
-    let room = scan_room k v.0.event.coefficients (firsts ps) (seconds ps) small (omega (arith, w.in-coefficients)) few in
-    omega (arith, room, m, some, w.in-mz)
+    let few : min (length (firsts ps)) (length (seconds ps)) < 2 ^ 64 = omega (arith, m, i, some, w.in_mz) in
+    let room = scan_room k v.0.event.coefficients (firsts ps) (seconds ps) small (omega (arith, w.in_coefficients)) few in
+    omega (arith, room, m, some, w.in_mz)

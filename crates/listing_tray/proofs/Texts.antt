@@ -52,8 +52,8 @@ module _ (h : TrayHeader) (k at : ℕ) (s : List ℕ) (x : ScanAnswer) (a b c d 
       let cm : length (firsts w.2) ≡ length w.2 = length-map w.2 (λ (z : Pair). z.0) in
       let ci : length (seconds w.2) ≡ length w.2 = length-map w.2 (λ (z : Pair). z.1) in
       let n : v.pairs ≡ length w.2 = ap (λ (z : Scan). z.pairs) answered ∙ t.count in
-      let fm = front (firsts w.2) m (n ∙ sym cm) (omega (arith, t.in-mz, cm)) wm in
-      let fi = front (seconds w.2) i (n ∙ sym ci) (omega (arith, t.in-intensity, ci)) wi in
+      let fm = front (firsts w.2) m (n ∙ sym cm) (omega (arith, t.in_mz, cm)) wm in
+      let fi = front (seconds w.2) i (n ∙ sym ci) (omega (arith, t.in_intensity, ci)) wi in
       record { in_mz = fm.0; in_intensity = fi.0; lines = rw (fm.1, fi.1, answered, zip-columns w.2, ← is) }
 
   pub has_text : (v : Scan) → x ≡ answer.Scan v → HasText (format_in h) text k m' i' v

@@ -3,7 +3,6 @@ use mathlib.Core.Path.{sym, ap, ◌∙◌}
 use Rattle.tray_header.specs.Header.{outcome_of}
 use Rattle.listing_tray.specs.Listing.{header_text}
 use Rattle.listing_tray.proofs.Texts.{refusal_is}
-use borrow.Author.Rules.{rules}
 use Rattle.listing_tray.proofs.list_header.Goals as goal
 
 pub returns-in-Refused : goal.returns-in-Refused

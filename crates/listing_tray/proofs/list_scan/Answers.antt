@@ -6,17 +6,20 @@ use Rattle.listing_tray.proofs.Texts.{refused_text, has_text}
 use borrow.Author.Rules.{rules}
 use Rattle.listing_tray.proofs.list_scan.Goals as goal
 
+-- the slices hold the pairs that were written
 pub slice_bounds-mz-end : goal.slice_bounds-mz-end
 slice_bounds-mz-end c = (has_text _ _ _ _ _ _ _ _ _ _ _ _ c.scan_at-read.ensures.left_lists_and_pairs _ c.in-Scan.is).in_mz
 
 pub slice_bounds-write_listed-end : goal.slice_bounds-write_listed-end
-slice_bounds-write_listed-end c = sym (simp length-take (omega (arith, array-borrow-prefix-mz (goal.at.slice_bounds-write_listed-end c).After-format_in)))
+slice_bounds-write_listed-end c =
+    sym (simp length-take (omega (arith, (has_text _ _ _ _ _ _ _ _ _ _ _ _ c.scan_at-read.ensures.left_lists_and_pairs _ c.in-Scan.is).in_mz)))
 
 pub slice_bounds-intensity-end : goal.slice_bounds-intensity-end
 slice_bounds-intensity-end c = (has_text _ _ _ _ _ _ _ _ _ _ _ _ c.scan_at-read.ensures.left_lists_and_pairs _ c.in-Scan.is).in_intensity
 
 pub slice_bounds-write_listed-end-in-Scan : goal.slice_bounds-write_listed-end-in-Scan
-slice_bounds-write_listed-end-in-Scan c = sym (simp length-take (omega (arith, array-borrow-prefix-intensity (goal.at.slice_bounds-write_listed-end-in-Scan c).After-mz-in-Scan-1)))
+slice_bounds-write_listed-end-in-Scan c =
+    sym (simp length-take (omega (arith, (has_text _ _ _ _ _ _ _ _ _ _ _ _ c.scan_at-read.ensures.left_lists_and_pairs _ c.in-Scan.is).in_intensity)))
 
 pub returns-in-Refused : goal.returns-in-Refused
 returns-in-Refused c =

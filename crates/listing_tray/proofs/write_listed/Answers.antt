@@ -10,20 +10,20 @@ use Rattle.listing_tray.proofs.write_listed.Goals as goal
 use Rattle.listing_tray.proofs.write_listed.Goals.{After-keep_listed-n}
 
 module _ (c : After-keep_listed-n) where
-  kept : Kept (listed_pairs c.args.format (zip c.args.mz.now c.args.intensity.now)) c.keep_listed-n.new.1.0 c.keep_listed-n.new.1.1.0 c.keep_listed-n.result
+  kept : Kept (listed_pairs c.args.format (zip c.args.mz.now c.args.intensity.now)) c.keep_listed-n.new.mz c.keep_listed-n.new.intensity c.keep_listed-n.result
   kept = fronts c.args.format c.args.mz.now c.args.intensity.now c.keep_listed-n.ensures.value c.keep_listed-n.ensures.intensity_after
 
 pub slice_bounds-write_scan_lines-end : goal.slice_bounds-write_scan_lines-end
 slice_bounds-write_scan_lines-end c = (kept (goal.at.slice_bounds-write_scan_lines-end c).After-keep_listed-n).in_masses
 
 pub slice_bounds-write_scan_lines-end-2 : goal.slice_bounds-write_scan_lines-end-2
-slice_bounds-write_scan_lines-end-2 c = sym (simp length-take (omega (arith, slice-reshare-prefix-write-scan-lines (goal.at.slice_bounds-write_scan_lines-end-2 c).After-intensity-1)))
+slice_bounds-write_scan_lines-end-2 c = sym (simp length-take (omega (arith, (kept (goal.at.slice_bounds-write_scan_lines-end-2 c).After-keep_listed-n).in_masses)))
 
 pub slice_bounds-write_scan_lines-end-3 : goal.slice_bounds-write_scan_lines-end-3
 slice_bounds-write_scan_lines-end-3 c = (kept (goal.at.slice_bounds-write_scan_lines-end-3 c).After-keep_listed-n).in_intensities
 
 pub slice_bounds-write_scan_lines-end-4 : goal.slice_bounds-write_scan_lines-end-4
-slice_bounds-write_scan_lines-end-4 c = sym (simp length-take (omega (arith, slice-reshare-prefix-write-scan-lines-2 (goal.at.slice_bounds-write_scan_lines-end-4 c).After-intensity-1)))
+slice_bounds-write_scan_lines-end-4 c = sym (simp length-take (omega (arith, (kept (goal.at.slice_bounds-write_scan_lines-end-4 c).After-keep_listed-n).in_intensities)))
 
 pub returns : goal.returns
 returns c =
