@@ -11,14 +11,14 @@ returns-then-remaining-lt32 c = short_header _ (omega arith)
 pub returns-then-h-gt1 : goal.returns-then-h-gt1
 unfolding judged
 returns-then-h-gt1 c =
-    whole_header c.args.tray.now (omega arith) c.fields-h.ensures (rw (lt-leb _ _ c.if-h-gt1.true))
+    whole_header c.args.tray.now (omega arith) c.fields-h.ensures (rw (lt-leb c.fields-h.result.flat 1 (omega arith)))
 
 pub returns-then-h-gt4096 : goal.returns-then-h-gt4096
 unfolding judged
 returns-then-h-gt4096 c =
-    whole_header c.args.tray.now (omega arith) c.fields-h.ensures (rw (le-leb _ _ c.if-h-gt1.false, lt-leb _ _ c.if-h-gt4096.true))
+    whole_header c.args.tray.now (omega arith) c.fields-h.ensures (rw (le-leb c.fields-h.result.flat 1 (omega arith), lt-leb c.fields-h.result.scans 4096 (omega arith)))
 
 pub returns : goal.returns
 unfolding judged
 returns c =
-    whole_header c.args.tray.now (omega arith) c.fields-h.ensures (rw (le-leb _ _ c.if-h-gt1.false, le-leb _ _ c.if-h-gt4096.false))
+    whole_header c.args.tray.now (omega arith) c.fields-h.ensures (rw (le-leb c.fields-h.result.flat 1 (omega arith), le-leb c.fields-h.result.scans 4096 (omega arith)))
