@@ -30,3 +30,5 @@ is_300 = refl
 pub is_3000 : of_bits binary64 0x40a7_7000_0000_0000 ≡ whole 3000
 unfolding of_bits of_int
 is_3000 = refl
+
+pub ruleset limits = (is_0_002, is_0_01, is_0_1, is_10, is_50, is_300, is_3000)

@@ -54,6 +54,7 @@ fn in_range(x: f64, low: f64, high: f64) -> bool
 }
 
 // The test turned round would leave out a centre that is a NaN.
+#[tactic(auto, unfolding(crate::specs::Transition::v63_test), using(crate::proofs::Constants::limits))]
 fn v63_test(data: &[u8], j: u64, q3_center_target: f64) -> bool
     requires { (8 ≤ j) × (j + 32 ≤ length «data».now) }
     ensures { result ≡ v63_test q3_center_target «data».now j }
