@@ -51,8 +51,8 @@ channels =
     ∷ 0x01 ∷ 0x00 ∷ 0x00 ∷ 0x00 ∷ 0x00 ∷ 0x00 ∷ 0x00 ∷ 0x40
     ∷ 0x00 ∷ 0x00 ∷ 0xc0 ∷ 0x7f ∷ 0x00 ∷ 0x00 ∷ 0x00 ∷ 0x00 ∷ replicate 5 0))))
 
-pub worked-cases :
+pub worked_cases :
     (listing (words ++ run) ≡ ascii "T 8 1\nS 0 1 0\n5000313 4000000000000000\n")
     × (listing (words ++ channels) ≡ ascii "T 8 1\nS 0 3 0\n5000313 4000000000000000\n0 4000000000000000\n- 0000000000000000\n")
 unfolding of_bits to_bits of_int round eq ne lt le each over parse repeat outcome size_for_version format_of layout describe reaction layout_before_66 event_layout event counted peaks_from attempt attempts flat_peaks peak peak_pairs scaled ten_thousandths largest_mass digit decimal_by decimal hexadecimal tray_line scan_lines header judged read_header scan_data pairs entry_in scan_parts lists_and_pairs_if_fit scan_if_fits header_with read_scan scans_text listing
-worked-cases = (refl, refl)
+worked_cases = (refl, refl)
