@@ -7,6 +7,7 @@ ghost use Rattle.event_coefficients.specs.Coefficients.{word_offset, coefficient
 use reader::{remaining, saturating_sub, u32_at};
 
 // Where the count word stands in a body of `size` bytes whose window is at `window`, or absent, which counts as 0.
+#[tactic(auto, unfolding(crate::specs::Coefficients::word_offset))]
 pub fn word_offset(window: u64, size: u64, primary: bool) -> u64
     ensures { result ≡ word_offset window size primary }
 {
@@ -20,6 +21,7 @@ pub fn word_offset(window: u64, size: u64, primary: bool) -> u64
 }
 
 // How many coefficients stand after the count word. A stored count beyond the body is cut to what fits.
+#[tactic(auto, unfolding(crate::specs::Coefficients::coefficient_count))]
 pub fn coefficient_count(body: &[u8], offset: u64) -> u64
     ensures { result ≡ coefficient_count body.now offset }
 {

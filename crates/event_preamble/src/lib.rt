@@ -11,6 +11,7 @@ use codes::{Activation, Code, Family};
 use reader::u8_at;
 
 // How many bytes it takes.
+#[tactic(auto, unfolding(crate::specs::Size::size_for_version))]
 pub fn size_for_version(version: u32) -> u64
     ensures { result ≡ size_for_version version }
 {
@@ -120,6 +121,7 @@ fn named(activation: Activation) -> bool
 }
 
 // From the preamble alone, which cannot tell EThcD from ETD.
+#[tactic(auto, unfolding(crate::specs::Settings::activation_at))]
 pub fn activation(bytes: &[u8]) -> Activation
     ensures { result ≡ activation_at bytes.now }
 {

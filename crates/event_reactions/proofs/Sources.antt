@@ -2,7 +2,7 @@
 use mathlib.Core.Path.{◌≡◌, refl, ap, ◌∙◌}
 use mathlib.Core.Bool.{Bool, true, false}
 use mathlib.Core.List.{List, [], ◌∷◌}
-use mathlib.Core.Logic.{◌⊎◌, ⊎_elim}
+use mathlib.Core.Logic.{⊎_elim}
 use Prim.Native.Nat.{ℕ, ◌+◌, ◌*◌, ◌-◌, ◌^◌, ◌≤◌, ◌<◌, min}
 use native.Mathlib.Omega.{arith}
 use borrow.Author.Tests.{le-leb, lt-leb}
@@ -42,10 +42,6 @@ or_if_empty_most (r ∷ rs) ss = omega arith
 or_nothing : (rs : List Reaction) → or_if_empty rs [] ≡ rs
 or_nothing [] = refl
 or_nothing (r ∷ rs) = refl
-
--- `⊎_elim` with the sum first: what each way says is then known where it is used
-pub by_ways : {A B C : Type 0} → A ⊎ B → (A → C) → (B → C) → C
-by_ways w f g = ⊎_elim f g w
 
 -- n records are read
 module _ (body : List ℕ) (h : 8 ≤ length body) {tribrid : Bool} {n : ℕ} where

@@ -1,4 +1,3 @@
-pub mod Tests
 pub mod Precursors
 pub mod OneAnswer
 pub mod LongerBytes

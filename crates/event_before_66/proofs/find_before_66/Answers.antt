@@ -2,7 +2,6 @@
 use native.Mathlib.Omega.{arith}
 use Rattle.event_before_66.proofs.Stages.{size_most}
 use Rattle.event_before_66.proofs.Answers.{short_head, short_middle, short_tail, whole}
-use borrow.Author.Rules.{rules}
 use Rattle.event_before_66.proofs.find_before_66.Goals as goal
 
 pub overflow_add-len : goal.overflow_add-len

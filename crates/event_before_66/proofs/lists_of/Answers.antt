@@ -1,5 +1,4 @@
 -- `event_before_66::lists_of` meets its contract.
-use borrow.Author.Rules.{rules}
 use Rattle.event_before_66.proofs.lists_of.Goals as goal
 
 pub returns : goal.returns

@@ -1,5 +1,4 @@
 -- `event_bytes::activation_number` meets its contract.
-use borrow.Author.Rules.{rules}
 use Rattle.event_bytes.proofs.activation_number.Goals as goal
 
 pub returns-in-None : goal.returns-in-None

@@ -1,6 +1,5 @@
 -- `event_bytes::code_number` meets its contract.
 use native.Mathlib.Omega.{arith}
-use borrow.Author.Rules.{rules}
 use Rattle.event_bytes.proofs.code_number.Goals as goal
 
 pub returns-in-None : goal.returns-in-None

@@ -1,5 +1,4 @@
 -- `event_bytes::same_code` meets its contract.
-use borrow.Author.Rules.{rules}
 use Rattle.event_bytes.proofs.same_code.Goals as goal
 
 pub returns : goal.returns

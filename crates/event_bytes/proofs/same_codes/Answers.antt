@@ -1,5 +1,4 @@
 -- `event_bytes::same_codes` meets its contract.
-use borrow.Author.Rules.{rules}
 use Rattle.event_bytes.proofs.same_codes.Goals as goal
 
 pub returns : goal.returns

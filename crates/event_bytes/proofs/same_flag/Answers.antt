@@ -1,5 +1,4 @@
 -- `event_bytes::same_flag` meets its contract.
-use borrow.Author.Rules.{rules}
 use Rattle.event_bytes.proofs.same_flag.Goals as goal
 
 pub returns-then-a : goal.returns-then-a

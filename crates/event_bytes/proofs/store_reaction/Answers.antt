@@ -1,7 +1,6 @@
 -- `event_bytes::store_reaction` meets its contract: four words, one after the other.
 use native.Mathlib.Omega.{arith}
 use Rattle.event_bytes.proofs.Bytes.{stored_reaction}
-use borrow.Author.Rules.{rules}
 use Rattle.event_bytes.proofs.store_reaction.Goals as goal
 
 pub returns : goal.returns

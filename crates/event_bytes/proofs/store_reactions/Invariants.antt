@@ -1,15 +1,9 @@
 -- `event_bytes::store_reactions` meets its contract. The invariant: the first i reactions are stored, and the place is that of the next.
-use mathlib.Core.Path.{ap, ◌∙◌}
 use Prim.Native.Nat.{◌-◌}
-use native.Mathlib.Omega.{arith}
-use lib.ListN.{length}
-use lib.Seq.{length-sets}
-use borrow.Author.Rules.{rules}
 use Rattle.layout.specs.Layout.{written}
-use Rattle.writer.proofs.Loops.{Storing, storing_none, storing_more, storing_all}
+use Rattle.writer.proofs.Loops.{Storing}
 use Rattle.event_before_66.specs.Layout.{reaction}
 use Rattle.event_bytes.specs.Write.{zip}
-use Rattle.event_bytes.proofs.Bytes.{length-zip, get_d_zip, reaction_size}
 use Rattle.event_bytes.proofs.store_reactions.Given as goal
 
 abbrev pub invariant-loop-i : goal.invariant-loop-i

@@ -1,5 +1,4 @@
 -- `event_bytes::window_given` meets its contract.
-use borrow.Author.Rules.{rules}
 use Rattle.event_bytes.proofs.window_given.Goals as goal
 
 pub returns-in-Absent : goal.returns-in-Absent

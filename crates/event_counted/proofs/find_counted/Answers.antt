@@ -3,7 +3,6 @@ use Prim.Native.Nat.{◌+◌}
 use native.Mathlib.Omega.{arith}
 use Rattle.parser.proofs.Prefix.{part_is}
 use Rattle.event_counted.proofs.Answers.{short_preamble, short_body, wrong, found}
-use borrow.Author.Rules.{rules}
 use Rattle.event_counted.proofs.find_counted.Goals as goal
 
 pub returns-in-Refused : goal.returns-in-Refused

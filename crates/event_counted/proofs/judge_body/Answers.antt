@@ -4,7 +4,6 @@ use native.Mathlib.Omega.{arith}
 use Rattle.refusal.specs.Outcome.{ok}
 use Rattle.event_counted.specs.Internal.{outcome_of_records}
 use Rattle.event_counted.proofs.Answers.{no_count, wrong_record, sound_records, kept_most}
-use borrow.Author.Rules.{rules}
 use Rattle.event_counted.proofs.judge_body.Goals as goal
 
 pub judge_records-requires : goal.judge_records-requires

@@ -3,7 +3,6 @@ use mathlib.Core.Path.{sym, ap, ◌∙◌}
 use native.Mathlib.Omega.{arith}
 use Rattle.event_reactions.specs.Reactions.{acceptable as acceptable_bits}
 use Rattle.event_counted.proofs.Judging.{no_precursor, bad_precursor, no_energy, sound}
-use borrow.Author.Rules.{rules}
 use Rattle.event_counted.proofs.judge_record.Goals as goal
 
 pub returns-then-remaining-ge8-2 : goal.returns-then-remaining-ge8-2

@@ -1,6 +1,5 @@
 -- `event_counted::kept_count` meets its contract.
 use mathlib.Core.Path.{sym, ◌∙◌}
-use borrow.Author.Rules.{rules}
 use Rattle.event_counted.proofs.kept_count.Goals as goal
 
 pub returns-then-is_primary : goal.returns-then-is_primary

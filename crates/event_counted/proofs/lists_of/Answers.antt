@@ -1,6 +1,5 @@
 -- `event_counted::lists_of` meets its contract.
 use Rattle.event_counted.specs.Layout.{lists_counted}
-use borrow.Author.Rules.{rules}
 use Rattle.event_counted.proofs.lists_of.Goals as goal
 
 pub returns : goal.returns

@@ -3,7 +3,6 @@ use Prim.Native.Nat.{◌+◌}
 use native.Mathlib.Omega.{arith}
 use Rattle.parser.proofs.Prefix.{part_is}
 use Rattle.event_from_66.proofs.Answers.{short_preamble, short_body, found}
-use borrow.Author.Rules.{rules}
 use Rattle.event_from_66.proofs.find_from_66.Goals as goal
 
 pub returns-then-size-remaining : goal.returns-then-size-remaining

@@ -3,7 +3,6 @@ use native.Mathlib.Omega.{arith}
 use lib.ListN.{length}
 use Rattle.event_coefficients.proofs.Offset.{word_most}
 use Rattle.event_from_66.specs.Layout.{lists_from_66}
-use borrow.Author.Rules.{rules}
 use Rattle.event_from_66.proofs.lists_of.Goals as goal
 
 pub overflow_add-result : goal.overflow_add-result

@@ -1,7 +1,6 @@
 -- `event_from_66::reactions_of` meets its contract.
 use mathlib.Core.Path.{sym, ◌∙◌}
 use Rattle.event_from_66.proofs.Sought.{sought_is}
-use borrow.Author.Rules.{rules}
 use Rattle.event_from_66.proofs.reactions_of.Goals as goal
 
 pub returns-then-is_primary : goal.returns-then-is_primary

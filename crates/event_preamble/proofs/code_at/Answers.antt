@@ -3,7 +3,6 @@ use Prim.Native.Nat.{suc, ◌≤◌}
 use native.Mathlib.Omega.{arith}
 use lib.ListN.{length}
 use borrow.Author.Tests.{le-leb, lt-leb}
-use borrow.Author.Rules.{rules}
 use Rattle.event_preamble.proofs.code_at.Goals as goal
 
 pub returns-then-i-bytes : goal.returns-then-i-bytes

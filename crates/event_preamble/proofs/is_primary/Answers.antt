@@ -1,6 +1,5 @@
 -- `event_preamble::is_primary` meets its contract: the second test decides where the first holds.
 use borrow.Author.Tests.{le-leb, lt-leb}
-use borrow.Author.Rules.{rules}
 use Rattle.event_preamble.proofs.is_primary.Goals as goal
 
 pub returns-then-u8_at-le1 : goal.returns-then-u8_at-le1

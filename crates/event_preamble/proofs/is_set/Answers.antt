@@ -1,5 +1,4 @@
 -- `event_preamble::is_set` meets its contract.
-use borrow.Author.Rules.{rules}
 use Rattle.event_preamble.proofs.is_set.Goals as goal
 
 pub returns : goal.returns

@@ -1,7 +1,6 @@
 -- `event_reactions::acceptable` meets its contract.
 use mathlib.Core.Path.{sym, ◌∙◌}
 use Rattle.event_reactions.proofs.Constants.{zero_is}
-use borrow.Author.Rules.{rules}
 use Rattle.event_reactions.proofs.acceptable.Goals as goal
 
 pub returns-then-is_finite64 : goal.returns-then-is_finite64

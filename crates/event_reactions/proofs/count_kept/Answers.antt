@@ -1,11 +1,10 @@
 -- `event_reactions::count_kept` meets its contract. The invariant: `count` of the first i records are kept.
 use mathlib.Core.Path.{◌≡◌, sym, ◌∙◌}
-use mathlib.Core.Logic.{⊎_elim}
-use Prim.Native.Nat.{◌-◌, ◌≤◌}
 use native.Mathlib.Omega.{arith}
-use Rattle.event_reactions.proofs.Kept.{Counted, count_none, count_in, count_out}
+use Rattle.event_reactions.proofs.Kept.{count_none, count_in, count_out}
 use borrow.Author.Rules.{rules}
 use Rattle.event_reactions.proofs.count_kept.Goals as goal
+use Rattle.event_reactions.proofs.count_kept.Goals.{then-acceptable, else-acceptable}
 
 pub loop-i-init : goal.loop-i-init
 loop-i-init c = (count_none _ _, search rules)
@@ -14,10 +13,10 @@ pub loop-i-preserved : goal.loop-i-preserved
 loop-i-preserved c =
     let inv = c.loop-i.invariant in
     let says = rw c.u64_at.ensures at c.acceptable.ensures in
-    ⊎_elim
-    (λ w. (rw w.1 (count_in _ _ _ _ (sym says ∙ w.0.taken) inv.0), omega arith))
-    (λ w. (rw w.1 (count_out _ _ _ _ (sym says ∙ w.0.left) inv.0), omega arith))
-    c.if-acceptable.branch
+    elim c.if-acceptable.branch [
+      | then-acceptable w ↦ (rw w.count-is (count_in _ _ _ _ (sym says ∙ w.if-acceptable.true) inv.0), omega arith)
+      | else-acceptable w ↦ (rw w.count-is (count_out _ _ _ _ (sym says ∙ w.if-acceptable.false) inv.0), omega arith)
+    ]
 
 pub returns : goal.returns
 returns c =

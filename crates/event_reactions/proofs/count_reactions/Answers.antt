@@ -1,7 +1,6 @@
 use mathlib.Core.Path.{sym}
 use Rattle.lists.proofs.Laws.{length-each}
 use Rattle.event_reactions.specs.Reactions.{in_source}
-use borrow.Author.Rules.{rules}
 use Rattle.event_reactions.proofs.count_reactions.Goals as goal
 
 pub returns-in-Every : goal.returns-in-Every

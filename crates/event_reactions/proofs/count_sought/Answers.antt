@@ -1,15 +1,12 @@
 -- `event_reactions::count_sought` meets its contract: each return is one of the sources.
 use mathlib.Core.Path.{sym, ◌∙◌}
 use native.Mathlib.Omega.{arith}
-use Rattle.event_reactions.proofs.Sources.{records_fit, too_short, of_tribrid, of_counted, of_uncounted, of_neither, by_ways}
-use borrow.Author.Rules.{rules}
+use Rattle.event_reactions.proofs.Sources.{records_fit, too_short, of_tribrid, of_counted, of_uncounted, of_neither}
 use Rattle.event_reactions.proofs.count_sought.Goals as goal
+use Rattle.event_reactions.proofs.count_sought.Goals.{else-count-eq0-via-then-count-eq0+else-has_uncounted, else-count-eq0-via-else-count-eq0}
 
 pub returns-then-body-lt8 : goal.returns-then-body-lt8
 returns-then-body-lt8 c = rw (too_short _ _ c.if-body-lt8.true)
-
-pub record_count-requires : goal.record_count-requires
-record_count-requires c = search rules
 
 pub count_kept-requires : goal.count_kept-requires
 count_kept-requires c = (omega arith, rw c.record_count.ensures (records_fit _ _ _))
@@ -18,14 +15,8 @@ pub returns-then-tribrid : goal.returns-then-tribrid
 returns-then-tribrid c =
     rw (of_tribrid _ c.if-body-lt8.false c.if-tribrid.true c.record_count.ensures) c.count_kept.ensures
 
-pub record_count-requires-2 : goal.record_count-requires-2
-record_count-requires-2 c = search rules
-
 pub count_kept-count-requires : goal.count_kept-count-requires
 count_kept-count-requires c = (omega arith, rw c.record_count-2.ensures (records_fit _ _ _))
-
-pub has_uncounted-requires : goal.has_uncounted-requires
-has_uncounted-requires c = search rules
 
 pub returns-then-has_uncounted : goal.returns-then-has_uncounted
 returns-then-has_uncounted c =
@@ -33,7 +24,9 @@ returns-then-has_uncounted c =
 
 pub returns-else-count-eq0 : goal.returns-else-count-eq0
 returns-else-count-eq0 c =
-    by_ways
-    c.else-count-eq0.branch
-    (λ w. rw (of_neither _ c.if-body-lt8.false c.if-tribrid.false c.record_count-2.ensures (sym w.1.ensures ∙ w.2.left)) c.count_kept-count.ensures)
-    (λ w. rw (of_counted _ c.if-body-lt8.false c.if-tribrid.false c.record_count-2.ensures (λ z. w.left (c.count_kept-count.ensures ∙ z))) c.count_kept-count.ensures)
+    elim c.else-count-eq0.branch [
+      | else-count-eq0-via-then-count-eq0+else-has_uncounted w ↦
+          rw (of_neither _ c.if-body-lt8.false c.if-tribrid.false c.record_count-2.ensures (sym w.has_uncounted.ensures ∙ w.if-has_uncounted.false)) c.count_kept-count.ensures
+      | else-count-eq0-via-else-count-eq0 w ↦
+          rw (of_counted _ c.if-body-lt8.false c.if-tribrid.false c.record_count-2.ensures (λ z. w.if-count-eq0.false (c.count_kept-count.ensures ∙ z))) c.count_kept-count.ensures
+    ]

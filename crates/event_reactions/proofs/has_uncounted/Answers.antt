@@ -1,6 +1,5 @@
 -- `event_reactions::has_uncounted` meets its contract.
 use borrow.Author.Tests.{le-leb, lt-leb}
-use borrow.Author.Rules.{rules}
 use Rattle.event_reactions.proofs.has_uncounted.Goals as goal
 
 pub returns-then-body-ge36 : goal.returns-then-body-ge36

@@ -1,7 +1,6 @@
 -- `event_reactions::record_count` meets its contract.
 use borrow.Author.Tests.{le-leb, lt-leb}
 use Rattle.event_reactions.specs.Reactions.{record_count}
-use borrow.Author.Rules.{rules}
 use Rattle.event_reactions.proofs.record_count.Goals as goal
 
 pub returns-then-stored-largest : goal.returns-then-stored-largest

@@ -1,21 +1,21 @@
 -- The invariant: those kept of the first i records are written, `count` of them.
 use mathlib.Core.Path.{◌≡◌, sym, ◌∙◌}
 use mathlib.Core.Bool.{true}
-use Prim.Native.Nat.{◌-◌, ◌≤◌, ◌<◌}
+use Prim.Native.Nat.{◌<◌}
 use native.Mathlib.Omega.{arith}
 use lib.ListN.{length}
 use Rattle.event_reactions.specs.Reactions.{kept}
-use Rattle.event_reactions.proofs.Kept.{kept_room, Counted, count_none, count_in, count_out, Written, write_none, write_in, write_out}
-use Rattle.event_reactions.proofs.Sources.{by_ways}
+use Rattle.event_reactions.proofs.Kept.{kept_room, count_none, count_in, count_out, write_none, write_in, write_out}
 use borrow.Author.Rules.{rules}
 use Rattle.event_reactions.proofs.write_kept.Goals as goal
+use Rattle.event_reactions.proofs.write_kept.Goals.{then-acceptable, else-acceptable}
 use Rattle.event_reactions.proofs.write_kept.Goals.{After-acceptable}
 
 pub loop-i-init : goal.loop-i-init
 loop-i-init c = (count_none _ _, write_none _ _ _ _, search rules)
 
 -- there is room for a record that is kept
-module _ (a : After-acceptable) (taken : c.acceptable.result ≡ true) where
+module _ (c : After-acceptable) (taken : c.acceptable.result ≡ true) where
   next_fits : c.loop-i.count < length (kept c.args.body.now c.args.from c.args.n)
   next_fits =
       let x = c.args in
@@ -33,16 +33,16 @@ loop-i-preserved c =
     let inv = c.loop-i.invariant in
     let bits = c.u64_at-precursor.ensures in
     let says = sym (rw bits at c.acceptable.ensures) in
-    by_ways
-    c.if-acceptable.branch
-    (λ w.
-    let h = says ∙ w.0.taken in
-    let fits = next_fits (goal.at.loop-i-preserved c).After-acceptable w.0.taken in
-    let stored = write_in _ _ _ _ _ _ _ _ h inv.0.counted (omega arith) (omega arith) inv.1 in
-    (rw w.4 (count_in _ _ _ _ h inv.0), rw (w.2, w.3, bits, w.1.ensures) stored, omega arith))
-    (λ w.
-    let h = says ∙ w.0.left in
-    (rw w.3 (count_out _ _ _ _ h inv.0), rw (w.1, w.2) (write_out _ _ _ _ _ _ _ h inv.1), omega arith))
+    elim c.if-acceptable.branch [
+      | then-acceptable w ↦
+          let h = says ∙ w.if-acceptable.true in
+          let fits = next_fits (goal.at.loop-i-preserved c).After-acceptable w.if-acceptable.true in
+          let stored = write_in _ _ _ _ _ _ _ _ h inv.0.counted (omega arith) (omega arith) inv.1 in
+          (rw w.count-is (count_in _ _ _ _ h inv.0), rw (w.precursors-is, w.energies-is, bits, w.u64_at.ensures) stored, omega arith)
+      | else-acceptable w ↦
+          let h = says ∙ w.if-acceptable.false in
+          (rw w.count-is (count_out _ _ _ _ h inv.0), rw (w.precursors-is, w.energies-is) (write_out _ _ _ _ _ _ _ h inv.1), omega arith)
+    ]
 
 pub shape_of-precursors : goal.shape_of-precursors
 shape_of-precursors c = c.loop-i.invariant.1.same_precursors

@@ -2,7 +2,6 @@ use mathlib.Core.List.{[], ◌∷◌}
 use lib.ListN.{length}
 use mathlib.Core.Path.{sym, ◌∙◌}
 use Rattle.lists.proofs.Left.{fits_true, pairs_no_room, pairs_written}
-use borrow.Author.Rules.{rules}
 use Rattle.event_reactions.proofs.write_reactions.Goals as goal
 
 pub write_source-requires : goal.write_source-requires

@@ -1,15 +1,14 @@
 -- Each return is one of the sources.
--- Each return is one of the sources.
-use mathlib.Core.Path.{sym, ◌∙◌}
+use mathlib.Core.Path.{◌≡◌, sym, ◌∙◌}
 use native.Mathlib.Omega.{arith}
 use Rattle.lists.specs.Written.{each}
 use Rattle.lists.proofs.Laws.{over_none}
-use Rattle.event_reactions.specs.Reactions.{kept}
+use Rattle.event_reactions.specs.Reactions.{kept, reactions_in}
 use Rattle.event_reactions.proofs.Kept.{column_first}
-use Rattle.event_reactions.proofs.Sources.{records_fit, too_short, of_tribrid, counted_within, of_counted, of_uncounted, of_neither, by_ways}
-use borrow.Author.Rules.{rules}
+use Rattle.event_reactions.proofs.Sources.{records_fit, too_short, of_tribrid, counted_within, of_counted, of_uncounted, of_neither}
 use Rattle.parser.specs.Parser.{word_at}
 use Rattle.event_reactions.proofs.write_sought.Goals as goal
+use Rattle.event_reactions.proofs.write_sought.Goals.{else-count-eq0-via-then-count-eq0+else-has_uncounted, else-count-eq0-via-else-count-eq0}
 
 pub returns-then-body-lt8 : goal.returns-then-body-lt8
 returns-then-body-lt8 c =
@@ -45,9 +44,12 @@ returns-then-has_uncounted c =
 pub returns-else-count-eq0 : goal.returns-else-count-eq0
 returns-else-count-eq0 c =
     let done = c.write_kept-count.ensures in
-    let is =
-    by_ways
-    c.else-count-eq0.branch
-    (λ w. of_neither _ c.if-body-lt8.false c.if-tribrid.false c.record_count-2.ensures (sym w.1.ensures ∙ w.2.left))
-    (λ w. of_counted _ c.if-body-lt8.false c.if-tribrid.false c.record_count-2.ensures (λ z. w.left (done.0 ∙ z))) in
-    record { precursors_after = rw is done.1.0; energies_after = rw is done.1.1 }
+    let found = kept c.args.body.now 8 c.record_count-2.result in
+    let is : reactions_in c.args.tribrid c.args.body.now ≡ found =
+    elim c.else-count-eq0.branch [
+      | else-count-eq0-via-then-count-eq0+else-has_uncounted w ↦
+          of_neither _ c.if-body-lt8.false c.if-tribrid.false c.record_count-2.ensures (sym w.has_uncounted.ensures ∙ w.if-has_uncounted.false)
+      | else-count-eq0-via-else-count-eq0 w ↦
+          of_counted _ c.if-body-lt8.false c.if-tribrid.false c.record_count-2.ensures (λ z. w.if-count-eq0.false (done.value ∙ z))
+    ] in
+    record { precursors_after = rw is done.precursors_after; energies_after = rw is done.energies_after }

@@ -5,7 +5,6 @@ use Rattle.lists.specs.Left.{firsts, seconds}
 use Rattle.event_reactions.specs.Reactions.{reactions_in, in_source}
 use Rattle.event_reactions.proofs.Count.{length-precursors, length-energies}
 use Rattle.event_reactions.proofs.Sources.{every_precursor, every_energy}
-use borrow.Author.Rules.{rules}
 use Rattle.event_reactions.proofs.write_source.Goals as goal
 
 pub write_sought-requires : goal.write_sought-requires

@@ -1,6 +1,5 @@
 -- `event_record::has_precursor` meets its contract: the code's 0.0 is the definition's.
 use Rattle.event_reactions.proofs.Constants.{zero_is}
-use borrow.Author.Rules.{rules}
 use Rattle.event_record.proofs.has_precursor.Goals as goal
 
 pub returns : goal.returns

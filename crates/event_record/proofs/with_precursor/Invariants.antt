@@ -1,13 +1,9 @@
 -- `event_record::with_precursor` meets its contract. The loop's invariant: what is counted, with what is left to count, is the whole.
 -- The measure is what is left of the length.
-use mathlib.Core.Path.{◌≡◌, sym, ◌∙◌}
-use mathlib.Core.Logic.{⊎_elim}
+use mathlib.Core.Path.{◌≡◌}
 use Prim.Native.Nat.{◌+◌, ◌-◌, ◌≤◌}
-use native.Mathlib.Omega.{arith}
 use lib.ListN.{length, drop}
 use Rattle.event_record.specs.Activation.{with_precursor}
-use Rattle.event_record.proofs.Precursors.{counted, passed, none_left}
-use borrow.Author.Rules.{rules}
 use Rattle.event_record.proofs.with_precursor.Given as goal
 
 abbrev pub invariant-loop-i : goal.invariant-loop-i

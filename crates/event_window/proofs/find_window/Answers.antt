@@ -1,5 +1,4 @@
 -- `event_window::find_window` meets its contract: the test picks the list of candidates.
-use borrow.Author.Rules.{rules}
 use Rattle.event_window.proofs.find_window.Goals as goal
 
 pub returns-then-tribrid : goal.returns-then-tribrid

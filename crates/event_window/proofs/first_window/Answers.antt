@@ -2,7 +2,6 @@
 use mathlib.Core.Path.{◌∙◌}
 use mathlib.Core.List.{◌∷◌, []}
 use Rattle.event_window.proofs.Search.{one_last}
-use borrow.Author.Rules.{rules}
 use Rattle.event_window.proofs.first_window.Goals as goal
 
 pub returns : goal.returns

@@ -1,9 +1,5 @@
 -- `event_window::or_at` meets its contract: the offset is looked at only where nothing was found.
-use borrow.Author.Rules.{rules}
 use Rattle.event_window.proofs.or_at.Goals as goal
 
 pub returns-in-Absent : goal.returns-in-Absent
 returns-in-Absent c = rw c.in-Absent.is c.plausible_window.ensures
-
-pub returns-in-Ends : goal.returns-in-Ends
-returns-in-Ends c = search rules

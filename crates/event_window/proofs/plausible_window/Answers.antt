@@ -1,7 +1,6 @@
 -- `event_window::plausible_window` meets its contract.
 use native.Mathlib.Omega.{arith}
 use Rattle.event_window.proofs.Search.{too_few, stands, implausible}
-use borrow.Author.Rules.{rules}
 use Rattle.event_window.proofs.plausible_window.Goals as goal
 
 pub returns-in-Ends : goal.returns-in-Ends

@@ -1,12 +1,11 @@
 -- `event_window::window_of` meets its contract: each way out of the `&&` says which tests held on it.
 use mathlib.Core.Path.{◌≡◌, refl, sym, ◌∙◌}
-use mathlib.Core.Logic.{⊎_elim}
 use lib.Ieee.{binary64, of_bits, round}
-use borrow.Author.Rules.{rules}
 use lib.Ieee.{of_int}
 use Rattle.event_window.specs.Window.{lowest}
 use Rattle.float_bits.specs.Numbers.{largest_mass}
 use Rattle.event_window.proofs.window_of.Goals as goal
+use Rattle.event_window.proofs.window_of.Goals.{else-is_finite-via-then-is_finite+then-is_finite-2+then-low+then-low-high+else-high, else-is_finite-via-then-is_finite+then-is_finite-2+then-low+else-low-high, else-is_finite-via-then-is_finite+then-is_finite-2+else-low, else-is_finite-via-then-is_finite+else-is_finite-2, else-is_finite-via-else-is_finite}
 
 -- 0.1 and 50,000 as the code has them, by their patterns
 lowest_is : of_bits binary64 0x3fb9_9999_9999_999a ≡ lowest
@@ -25,8 +24,13 @@ returns-then-high c =
 pub returns-else-is_finite : goal.returns-else-is_finite
 returns-else-is_finite c =
     let f = sym c.is_finite.ensures in
-    ⊎_elim (λ w. simp (← lowest_is, ← highest_is, f ∙ w.0.taken, sym w.1.ensures ∙ w.2.taken, w.3.taken, w.4.taken, w.5.left))
-    (⊎_elim (λ w. simp (← lowest_is, f ∙ w.0.taken, sym w.1.ensures ∙ w.2.taken, w.3.taken, w.4.left))
-    (⊎_elim (λ w. simp (← lowest_is, f ∙ w.0.taken, sym w.1.ensures ∙ w.2.taken, w.3.left))
-    (⊎_elim (λ w. simp (f ∙ w.0.taken, sym w.1.ensures ∙ w.2.left)) (λ w. simp (f ∙ w.left)))))
-    c.else-is_finite.branch
+    elim c.else-is_finite.branch [
+      | else-is_finite-via-then-is_finite+then-is_finite-2+then-low+then-low-high+else-high w ↦
+          simp (← lowest_is, ← highest_is, f ∙ w.if-is_finite.true, sym w.is_finite-then-is_finite.ensures ∙ w.if-is_finite-2.true, w.if-low.true, w.if-low-high.true, w.if-high.false)
+      | else-is_finite-via-then-is_finite+then-is_finite-2+then-low+else-low-high w ↦
+          simp (← lowest_is, f ∙ w.if-is_finite.true, sym w.is_finite-then-is_finite.ensures ∙ w.if-is_finite-2.true, w.if-low.true, w.if-low-high.false)
+      | else-is_finite-via-then-is_finite+then-is_finite-2+else-low w ↦
+          simp (← lowest_is, f ∙ w.if-is_finite.true, sym w.is_finite-then-is_finite.ensures ∙ w.if-is_finite-2.true, w.if-low.false)
+      | else-is_finite-via-then-is_finite+else-is_finite-2 w ↦ simp (f ∙ w.if-is_finite.true, sym w.is_finite-then-is_finite.ensures ∙ w.if-is_finite-2.false)
+      | else-is_finite-via-else-is_finite w ↦ simp (f ∙ w.if-is_finite.false)
+    ]

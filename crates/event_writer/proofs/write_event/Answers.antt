@@ -6,27 +6,25 @@ use lib.ListN.{length}
 use Rattle.event_writer.proofs.Parts.{part_ordered, part_within, after_saturated}
 use borrow.Author.Rules.{rules}
 use Rattle.event_writer.proofs.write_event.Goals as goal
-use Rattle.event_writer.proofs.write_event.Goals.{After-within-end, Start}
+use Rattle.event_writer.proofs.write_event.Goals.{After-within-end}
 
-few : (c : Start) → length c.args.run.now < 2 ^ 63
+few : (c : After-within-end) → length c.args.run.now < 2 ^ 63
 few c = omega arith
 
-abbrev start : After-within-end → Start
-start c = (PLACE Start)
-
 body_ordered : (c : After-within-end) → c.within-middle.result ≤ c.within-end.result
-body_ordered c = part_ordered (start c).args.run.now _ _ (few (start c)) c.within-middle.ensures c.saturating_add.ensures c.within-end.ensures
+body_ordered c = part_ordered c.args.run.now _ _ (few c) c.within-middle.ensures c.saturating_add.ensures c.within-end.ensures
 
 pub slice_bounds-write_if_fits-end-2 : goal.slice_bounds-write_if_fits-end-2
 slice_bounds-write_if_fits-end-2 c = omega (arith, c.within-end.ensures)
 
 pub returns : goal.returns
 returns c =
-    let a = (start (goal.at.returns c).After-within-end).args in
-    let s = a.run.now in
+    let few = few (goal.at.returns c).After-within-end in
+    let s = c.args.run.now in
+    let p = c.args.p in
     let sum = c.saturating_add-body.ensures in
-    let bytes = part_within s a.p.preamble a.p.preamble_len (few (start (goal.at.returns c).After-within-end)) c.within-from.ensures sum c.within-middle.ensures in
-    let body = part_within s _ _ (few (start (goal.at.returns c).After-within-end)) c.within-middle.ensures c.saturating_add.ensures c.within-end.ensures ∙ after_saturated s _ _ (few (start (goal.at.returns c).After-within-end)) sum c.saturating_sub.ensures in
+    let bytes = part_within s p.preamble p.preamble_len few c.within-from.ensures sum c.within-middle.ensures in
+    let body = part_within s _ _ few c.within-middle.ensures c.saturating_add.ensures c.within-end.ensures ∙ after_saturated s _ _ few sum c.saturating_sub.ensures in
     rw (bytes, body) at c.write_if_fits.ensures
 
 pub slice_bounds-write_if_fits-count-2 : goal.slice_bounds-write_if_fits-count-2

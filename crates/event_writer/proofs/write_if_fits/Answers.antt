@@ -10,12 +10,12 @@ use Rattle.event_writer.proofs.write_if_fits.Goals as goal
 use Rattle.event_writer.proofs.write_if_fits.Goals.{Then-holds}
 
 -- the test is one of all four
-room : ((PLACE Then-holds) : Then-holds)
-    → let a = t.args in
-    fits (length a.bytes.now ∷ t.count_reactions-count.result ∷ t.count_reactions-count.result ∷ a.j.coefficients ∷ [])
+room : (c : Then-holds)
+    → let a = c.args in
+    fits (length a.bytes.now ∷ c.count_reactions-count.result ∷ c.count_reactions-count.result ∷ a.j.coefficients ∷ [])
     (length a.preamble.now ∷ length a.precursors.now ∷ length a.energies.now ∷ length a.coefficients.now ∷ []) ≡ true
-room t =
-    rw (← t.holds.ensures, ← t.holds-2.ensures, ← t.holds-3.ensures, ← t.holds-4.ensures) t.if-holds.true
+room c =
+    rw (← c.holds.ensures, ← c.holds-2.ensures, ← c.holds-3.ensures, ← c.holds-4.ensures) c.if-holds.true
 
 pub write_lists-requires : goal.write_lists-requires
 write_lists-requires c =
@@ -23,11 +23,11 @@ write_lists-requires c =
 
 pub slice_bounds-activation-end : goal.slice_bounds-activation-end
 slice_bounds-activation-end c =
-    holds_precursors _ _ _ _ _ _ _ t.before.before.before.before.before.count-reactions.ensures 0 (room (goal.at.slice_bounds-activation-end c).Then-holds) w.write-lists.ensures
+    holds_precursors _ _ _ _ _ _ _ c.count_reactions-count.ensures 0 (room (goal.at.slice_bounds-activation-end c).Then-holds) c.write_lists.ensures
 
 pub returns-then-holds : goal.returns-then-holds
 returns-then-holds c =
-    event_written _ _ _ _ _ _ _ t.before.before.before.before.before.count-reactions.ensures _ (room (goal.at.returns-then-holds c).Then-holds) w.write-lists.ensures _ (rw (d.decode.ensures, c.activation.ensures))
+    event_written _ _ _ _ _ _ _ c.count_reactions-count.ensures _ (room (goal.at.returns-then-holds c).Then-holds) c.write_lists.ensures _ (rw (c.decode.ensures, c.activation.ensures))
 
 pub returns : goal.returns
 returns c =

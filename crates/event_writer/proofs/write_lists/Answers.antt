@@ -1,6 +1,5 @@
 -- Each list is written by a call of its own.
 use Rattle.event_writer.proofs.Writing.{all_lists}
-use borrow.Author.Rules.{rules}
 use Rattle.event_writer.proofs.write_lists.Goals as goal
 
 pub returns : goal.returns

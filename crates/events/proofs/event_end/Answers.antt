@@ -2,7 +2,6 @@
 use mathlib.Core.Path.{ap, sym, ◌∙◌}
 use Rattle.event_record.specs.Places.{outcome_of_places}
 use Rattle.events.proofs.Ends.{then_end}
-use borrow.Author.Rules.{rules}
 use Rattle.events.proofs.event_end.Goals as goal
 
 pub returns-in-Refused : goal.returns-in-Refused

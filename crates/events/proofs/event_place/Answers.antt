@@ -1,10 +1,8 @@
 -- `events::event_place` meets its contract: a turn passes one event (`Passed`).
 use mathlib.Core.Path.{sym, ap, ◌∙◌}
-use Prim.Native.Nat.{◌-◌}
 use native.Mathlib.Omega.{arith}
 use Rattle.refusal.specs.Number.{outcome_of_count}
-use Rattle.events.proofs.Ends.{Passed, passed_none, passed_more, passed_short, passed_all}
-use borrow.Author.Rules.{rules}
+use Rattle.events.proofs.Ends.{passed_none, passed_more, passed_short, passed_all}
 use Rattle.events.proofs.event_place.Goals as goal
 
 pub loop-i-init : goal.loop-i-init

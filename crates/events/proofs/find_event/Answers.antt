@@ -2,7 +2,6 @@
 use mathlib.Core.Path.{◌∙◌}
 use native.Mathlib.Omega.{arith}
 use Rattle.events.proofs.Ends.{by_from_66, by_before_66}
-use borrow.Author.Rules.{rules}
 use Rattle.events.proofs.find_event.Goals as goal
 
 pub returns-then-version-ge66 : goal.returns-then-version-ge66
