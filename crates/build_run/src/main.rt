@@ -2,12 +2,12 @@
 // `target/bin/build_run | target/bin/listing`. An example for who builds test runs; examples/trays/built-run.txt describes the tray.
 #![tactic(auto)]
 
+use anyhow::{Context, bail};
 use event_bytes::write_before_66;
 use event_preamble::decode;
 use event_record::{ScanEvent, activation};
 use event_window::Window;
 use float_bits::{bits_of_f32, bits_of_f64};
-use libc::STDOUT_FILENO;
 use refusal::{CountAnswer, Refusal};
 use scan_index::ScanIndexEntry;
 use writer::{store_u8, store_u32};
@@ -98,19 +98,17 @@ fn store_header(tray: &mut [u8]) {
     store_u32(tray, 28, 268);
 }
 
-fn main() {
+fn main(rt: HostRuntime) -> anyhow::Result<()> {
     let mut tray = [0u8; 309];
     store_header(&mut tray);
     let index = write_index(&mut tray);
     let events = write_events(&mut tray);
     store_data(&mut tray);
     match index {
-        CountAnswer::Refused(_) => os::fail(b"build_run: the entry was refused"),
+        CountAnswer::Refused(_) => bail!("the entry was refused"),
         CountAnswer::Count(_) => match events {
-            CountAnswer::Refused(_) => os::fail(b"build_run: the event was refused"),
-            CountAnswer::Count(_) => {
-                io::write_all(STDOUT_FILENO, &tray[..]);
-            }
+            CountAnswer::Refused(_) => bail!("the event was refused"),
+            CountAnswer::Count(_) => rt.write_all(&tray[..]).context("standard output"),
         },
     }
 }

@@ -2,107 +2,101 @@
 // `listing_tray`, scan by scan. An input that cannot be read is no tray: standard error says what happened.
 #![tactic(auto)]
 
-ghost use Rattle.std.specs.Prelude.{◌≡◌, suc, ◌≤◌, ◌<◌, length, drop};
+ghost use Rattle.std.specs.Prelude.{◌≡◌, suc, ◌≤◌, ◌<◌, length, drop, IfOk};
 ghost use Rattle.refusal.specs.Outcome.{ok};
 ghost use Rattle.tray_header.specs.Header.{read_tray_header};
 ghost use Rattle.listing_tray.specs.Internal.{walked_place};
 
-use libc::{STDIN_FILENO, STDOUT_FILENO};
+use anyhow::Context;
 use listing_tray::{list_header, list_scan};
 use refusal::CountAnswer;
+use std::io;
+use std::io::{Read, Write};
 use tray_header::{TrayHeader, TrayHeaderAnswer, read_tray_header};
 
 // What was written of the buffer, which holds every text: the lines of a scan take at most 55,360 bytes.
-fn print(out: &[u8; 57344], answer: CountAnswer) {
+fn print<W: Write>(to: &mut W, out: &[u8; 57344], answer: CountAnswer) -> io::Result<()> {
     let CountAnswer::Count(n) = answer else {
-        return;
+        return Ok(());
     };
     let whole = &out[..];
     if n <= whole.len() as u64 {
         let end = n as usize;
-        io::write_all(STDOUT_FILENO, &whole[0..end]);
+        to.write_all(&whole[0..end])?;
     }
+    Ok(())
 }
 
-fn print_header(header: TrayHeaderAnswer) {
+fn print_header<W: Write>(to: &mut W, header: TrayHeaderAnswer) -> io::Result<()> {
     let mut out = [0u8; 57344];
     let answer = list_header(header, &mut out);
-    print(&out, answer);
+    print(to, &out, answer)
 }
 
 // Scan k, whose event is read at a place of the run. The place for the next one.
-fn print_scan(tray: &[u8], h: TrayHeader, k: u32, at: u64) -> u64
+fn print_scan<W: Write>(to: &mut W, tray: &[u8], h: TrayHeader, k: u32, at: u64) -> io::Result<u64>
     requires h_value { ok h ≡ read_tray_header tray.now }
     requires k_lt_scans { k < h.scans }
     requires at_value { at ≡ walked_place h k (drop 32 tray.now) }
-    ensures { result ≡ walked_place h (suc k) (drop 32 tray.now) }
+    ensures { IfOk result (λ next. next ≡ walked_place h (suc k) (drop 32 tray.now)) }
 {
     let mut out = [0u8; 57344];
     let listed = list_scan(&tray[32..], at, h, k, &mut out);
     let answer = listed.written;
-    print(&out, answer);
-    listed.next
+    print(to, &out, answer)?;
+    Ok(listed.next)
 }
 
-fn print_scans(tray: &[u8], h: TrayHeader)
+fn print_scans<W: Write>(to: &mut W, tray: &[u8], h: TrayHeader) -> io::Result<()>
     requires { ok h ≡ read_tray_header tray.now }
 {
     let mut at = h.events as u64;
     let mut k: u32 = 0;
     while k < h.scans {
-        at = print_scan(tray, h, k, at);
+        at = print_scan(to, tray, h, k, at)?;
         k = k + 1;
     }
+    Ok(())
 }
 
 // The header is read once.
-fn print_tray(tray: &[u8])
+fn print_tray<W: Write>(to: &mut W, tray: &[u8]) -> io::Result<()>
     requires { length tray.now ≤ 24576 }
 {
     let header = read_tray_header(tray);
-    print_header(header);
+    print_header(to, header)?;
     if let TrayHeaderAnswer::Header(h) = header {
-        print_scans(tray, h);
+        print_scans(to, tray, h)?;
     }
+    Ok(())
 }
 
 // A longer tray prints only `L`.
-fn print_listing(input: &[u8; 24577], n: usize) {
+fn print_listing<W: Write>(to: &mut W, input: &[u8; 24577], n: usize) -> io::Result<()> {
     let whole = &input[..];
     if n <= 24576 {
-        print_tray(&whole[0..n]);
+        print_tray(to, &whole[0..n])
     } else {
-        io::write_all(STDOUT_FILENO, b"L\n");
+        to.write_all(b"L\n")
     }
-}
-
-#[derive(Drop)]
-enum Input {
-    Read(usize),
-    Failed,
 }
 
 // Reads until the slice is full or the input ends.
-fn read_input(input: &mut [u8]) -> Input {
+fn read_input<R: Read>(from: &mut R, input: &mut [u8]) -> io::Result<usize> {
     let mut n: usize = 0;
     while n < input.len() {
-        let got = libc::read(STDIN_FILENO, &mut input[n..]);
-        if got < 0 {
-            return Input::Failed;
-        }
-        let more = io::count(got, &input[n..]);
+        let more = from.read(&mut input[n..])?;
         if more == 0 {
-            return Input::Read(n);
+            return Ok(n);
         }
         n = n + more;
     }
-    Input::Read(n)
+    Ok(n)
 }
 
-fn main() {
+fn main(rt: HostRuntime) -> anyhow::Result<()> {
     let mut input = [0u8; 24577];
-    match read_input(&mut input) {
-        Input::Failed => os::fail(b"listing: standard input"),
-        Input::Read(n) => print_listing(&input, n),
-    }
+    let n = read_input(&mut rt.reader(), &mut input).context("standard input")?;
+    print_listing(&mut io::writer(&rt), &input, n).context("standard output")?;
+    Ok(())
 }

@@ -1,9 +1,9 @@
 // Reads requests, a line each, and answers them in turn.
-ghost use Rattle.std.specs.Prelude.{◌≤◌, length};
+ghost use Rattle.std.specs.Prelude.{◌≤◌, ◌<◌, length, IfOk};
 
 use crate::words;
-use libc::STDIN_FILENO;
-use probe_text::answer;
+use probe_text::{answer, request};
+use std::io::{Read, Result, Write};
 
 // The longest line that may be a request.
 const LONGEST: usize = 65536;
@@ -19,27 +19,39 @@ fn answer_line(line: &[u8], data: &mut [u8], out: &mut [u8], n: usize) -> usize 
     answer::put_byte(out, n, b'\n')
 }
 
-// Where the whole lines end, and how much text is held.
-#[derive(Drop)]
-struct Lines {
-    end: usize,
-    n: usize,
+// An answer that fills `out` may lack its end: there is room for it once `out` has grown.
+fn answer_whole(line: &[u8], data: &mut [u8], out: &mut Vec<u8>) -> Result<usize>
+    ensures { IfOk result (λ n. n < length out.new.items) }
+{
+    let mut n = answer_line(line, data, out, 0);
+    while out.len() <= n {
+        let more = out.len() + LONGEST;
+        out.resize(more, 0)?;
+        n = answer_line(line, data, out, 0);
+    }
+    Ok(n)
 }
 
-fn answer_lines(input: &[u8], data: &mut [u8], out: &mut [u8], n: usize) -> Lines
-    ensures { result.end ≤ length input.now }
+// Where the whole lines end.
+fn answer_lines<W: Write>(
+    to: &mut W,
+    input: &[u8],
+    data: &mut [u8],
+    out: &mut Vec<u8>,
+) -> Result<usize>
+    ensures { IfOk result (λ end. end ≤ length input.now) }
 {
     let mut at: usize = 0;
-    let mut n = n;
     while at < input.len() {
-        let end = bytes::scan::find(input, at, input.len(), b'\n');
+        let end = at + request::find(&input[at..], b'\n');
         if input.len() <= end {
             break;
         }
-        n = answer_line(&input[at..end], data, out, n);
+        let n = answer_whole(&input[at..end], data, out)?;
+        answer::flush(to, out, n)?;
         at = end + 1;
     }
-    Lines { end: at, n }
+    Ok(at)
 }
 
 // Moves what is held from `at` to `end` to the front and answers how much it is. Of a line that is already too long
@@ -60,29 +72,48 @@ fn keep(input: &mut [u8], at: usize, end: usize) -> usize
 }
 
 // At the input's end a rest without line feed is a last line.
-fn finish(rest: &[u8], data: &mut [u8], out: &mut [u8], n: usize) {
+fn finish<W: Write>(to: &mut W, rest: &[u8], data: &mut [u8], out: &mut Vec<u8>) -> Result<()> {
     if rest.len() == 0 {
-        answer::flush(out, n);
-        return;
+        return Ok(());
     }
-    let n = answer_line(rest, data, out, n);
-    answer::flush(out, n);
+    let n = answer_whole(rest, data, out)?;
+    answer::flush(to, out, n)?;
+    Ok(())
 }
 
-pub(crate) fn serve(input: &mut [u8], data: &mut [u8], out: &mut [u8]) {
-    let mut held: usize = 0;
+// Reads until `buf` is full or the input ends: how many bytes stand at its front then.
+fn read_full<R: Read>(from: &mut R, buf: &mut [u8]) -> Result<usize>
+    ensures { IfOk result (λ n. n ≤ length buf.new) }
+{
     let mut n: usize = 0;
+    while n < buf.len() {
+        let more = from.read(&mut buf[n..])?;
+        if more == 0 {
+            break;
+        }
+        n = n + more;
+    }
+    Ok(n)
+}
+
+pub(crate) fn serve<R: Read, W: Write>(
+    from: &mut R,
+    to: &mut W,
+    input: &mut [u8],
+    data: &mut [u8],
+    out: &mut Vec<u8>,
+) -> Result<()> {
+    let mut held: usize = 0;
     let mut round: u64 = 0;
     while round < ROUNDS {
-        let more = io::read_full(STDIN_FILENO, &mut input[held..]);
+        let more = read_full(from, &mut input[held..])?;
         if more == 0 {
-            finish(&input[0..held], data, out, n);
-            return;
+            return finish(to, &input[0..held], data, out);
         }
         let end = held + more;
-        let lines = answer_lines(&input[0..end], data, out, n);
-        n = lines.n;
-        held = keep(input, lines.end, end);
+        let at = answer_lines(to, &input[0..end], data, out)?;
+        held = keep(input, at, end);
         round = round + 1;
     }
+    Ok(())
 }

@@ -1,8 +1,8 @@
 // The request words.
-use probe_text::{Answered, answer};
+use probe_text::{Answered, answer, request};
 
 pub(crate) fn answer_request(line: &[u8], data: &mut [u8], out: &mut [u8], n: usize) -> usize {
-    let end = bytes::scan::find(line, 0, line.len(), b' ');
+    let end = request::find(line, b' ');
     of_requests(&line[0..end], &line[end..], data, out, n)
 }
 

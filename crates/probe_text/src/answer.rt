@@ -1,21 +1,21 @@
 // The text of answers. It is collected in `out`, which holds `n` bytes of it: a function that adds to it answers how
-// many it holds then.
-ghost use Rattle.std.specs.Prelude.{◌≤◌, ◌≡◌, length};
+// many it holds then. Text that finds no room is left out: who lends `out` sees by a full one that it was too short.
+ghost use Rattle.std.specs.Prelude.{◌≤◌, ◌≡◌, length, IfOk};
 
-use libc::STDOUT_FILENO;
 use refusal::{CountAnswer, Refusal};
+use std::io::{Result, Write};
 
-// Writes out what is held, after which nothing is. There is nobody to tell if that fails.
-pub fn flush(out: &[u8], n: usize) -> usize
-    ensures { result ≡ 0 }
+// Writes out what is held, after which nothing is.
+pub fn flush<W: Write>(to: &mut W, out: &[u8], n: usize) -> Result<usize>
+    ensures { IfOk result (λ held. held ≡ 0) }
 {
     if n <= out.len() {
-        io::write_all(STDOUT_FILENO, &out[0..n]);
+        to.write_all(&out[0..n])?;
     }
-    0
+    Ok(0)
 }
 
-// One more byte. Where there is no room for it, what is held is written out first.
+// One more byte, where there is room for it.
 pub fn put_byte(out: &mut [u8], n: usize, b: u8) -> usize
     ensures { result ≤ length out.new }
 {
@@ -23,12 +23,7 @@ pub fn put_byte(out: &mut [u8], n: usize, b: u8) -> usize
         out[n] = b;
         return n + 1;
     }
-    let n = flush(out, n);
-    if n < out.len() {
-        out[n] = b;
-        return n + 1;
-    }
-    n
+    out.len()
 }
 
 pub fn put(out: &mut [u8], n: usize, text: &[u8]) -> usize

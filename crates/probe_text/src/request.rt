@@ -1,7 +1,8 @@
 // The fields of a request line. Each ends at a space or at the line's end, and the next one is read from there. One that
 // is malformed or missing ends at NOWHERE, and so do those after it: whether a request's last field ends at the line's
 // end tells whether all is well.
-ghost use Rattle.std.specs.Prelude.{◌⊎◌, ◌≡◌, ◌≤◌, length, take};
+ghost use Rattle.std.specs.Prelude.{◌⊎◌, ◌≡◌, ◌==◌, ◌≤◌, length, take};
+ghost use Rattle.std.specs.List.{position_or_len};
 ghost use Rattle.probe_text.specs.Field.{Ends};
 
 pub const U8: u64 = 0xff;
@@ -88,6 +89,7 @@ fn nibble(byte: u8) -> u8
         _ => 16,
     }
 }
+
 // Puts the bytes at the front of `data` and answers how many there are.
 fn unhex(digits: &[u8], data: &mut [u8]) -> Value {
     if digits.len() == 0 {
@@ -116,6 +118,19 @@ fn unhex(digits: &[u8], data: &mut [u8]) -> Value {
     Value::Is(count as u64)
 }
 
+// Where the byte first stands in the text, or the text's length.
+pub fn find(text: &[u8], byte: u8) -> usize
+    ensures value { result ≡ position_or_len (λ b. b == byte) text.now }
+    ensures bound { result ≤ length text.now }
+{
+    for (i, b) in text.iter().enumerate() {
+        if *b == byte {
+            return i;
+        }
+    }
+    text.len()
+}
+
 // The field that follows at `at` as a number, not above `most`.
 pub fn number(line: &[u8], at: usize, most: u64) -> Field
     ensures value_le_most { result.value ≤ most }
@@ -125,7 +140,7 @@ pub fn number(line: &[u8], at: usize, most: u64) -> Field
         return nowhere();
     }
     let start = at + 1;
-    let end = bytes::scan::find(line, start, line.len(), b' ');
+    let end = start + find(&line[start..], b' ');
     let Value::Is(value) = decimal(&line[start..end]) else {
         return nowhere();
     };
@@ -143,7 +158,7 @@ pub fn bytes(line: &[u8], at: usize, data: &mut [u8]) -> Field
         return nowhere();
     }
     let start = at + 1;
-    let end = bytes::scan::find(line, start, line.len(), b' ');
+    let end = start + find(&line[start..], b' ');
     let digits = &line[start..end];
     if check::same(digits, b"-") {
         return Field { value: 0, end };

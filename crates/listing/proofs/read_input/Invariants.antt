@@ -1,0 +1,9 @@
+-- What was read stays within the slice, whose length stays.
+use Rattle.std.proofs.Common.{◌≤◌, length, ◌≡◌, ◌-◌}
+use Rattle.listing.proofs.read_input.Given as goal
+
+abbrev pub invariant-loop-n : goal.invariant-loop-n
+invariant-loop-n g l = (l.n ≤ length l.input) × (length l.input ≡ length l.initial.input)
+
+abbrev pub decreases-loop-n : goal.decreases-loop-n
+decreases-loop-n g l = length l.initial.input - l.n

@@ -1,0 +1,14 @@
+-- The loop stores the elements in order.
+use Prim.Native.Nat.{◌+◌, ◌-◌, ◌%◌}
+use mathlib.Core.Path.{refl}
+use native.Mathlib.Omega.{arith}
+use Rattle.lists.proofs.Laws.{Filling, fill_none, fill_more}
+use borrow.Author.Rules.{rules}
+use Rattle.probe_text.proofs.Loops.{filled}
+use Rattle.probe_writing.proofs.lent_bytes.record.Given as goal
+
+abbrev pub invariant-loop-i : goal.invariant-loop-i
+invariant-loop-i l = Filling (λ k. (0xa5 + k) % 256) 1024 l.initial.lent l.lent l.i
+
+abbrev pub decreases-loop-i : goal.decreases-loop-i
+decreases-loop-i l = 1024 - l.i
