@@ -1,9 +1,7 @@
 -- The loop stays within the array, whose length stays.
 use Prim.Native.Nat.{◌≤◌, ◌-◌}
 use mathlib.Core.Path.{◌≡◌}
-use native.Mathlib.Omega.{arith}
-use lib.ListN.{length, length-set}
-use borrow.Author.Rules.{rules}
+use lib.ListN.{length}
 use Rattle.probe_scans.proofs.floats.Given as goal
 
 abbrev pub invariant-loop-i : goal.invariant-loop-i

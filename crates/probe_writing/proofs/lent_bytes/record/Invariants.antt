@@ -1,10 +1,6 @@
 -- The loop stores the elements in order.
 use Prim.Native.Nat.{◌+◌, ◌-◌, ◌%◌}
-use mathlib.Core.Path.{refl}
-use native.Mathlib.Omega.{arith}
-use Rattle.lists.proofs.Laws.{Filling, fill_none, fill_more}
-use borrow.Author.Rules.{rules}
-use Rattle.probe_text.proofs.Loops.{filled}
+use Rattle.lists.proofs.Laws.{Filling}
 use Rattle.probe_writing.proofs.lent_bytes.record.Given as goal
 
 abbrev pub invariant-loop-i : goal.invariant-loop-i
