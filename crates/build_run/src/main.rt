@@ -1,5 +1,6 @@
 // Builds a run of one scan by the calls that write records, with a tray's header before it, and prints the tray:
-// `target/bin/build_run | target/bin/listing`. An example for who builds test runs; examples/trays/built-run.txt describes the tray.
+// `crates/build_run/out/build_run | crates/listing/out/listing`. An example for who builds test runs;
+// examples/trays/built-run.txt describes the tray.
 #![tactic(auto)]
 
 use anyhow::{Context, bail};
