@@ -36,6 +36,7 @@ pub fn window_of(low: f64, high: f64) -> Window
 }
 
 // The window at an offset in the body.
+#[tactic(auto, using(crate::proofs::Search::too_few))]
 pub fn plausible_window(body: &[u8], off: u64) -> FoundWindow
     ensures { result ≡ first_window body.now (off ∷ []) }
 {

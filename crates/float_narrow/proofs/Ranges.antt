@@ -67,3 +67,5 @@ module _ (r : ℕ) where
       go false true v a a' b b' c c' = le_of_eq (sym (bits_infinite (a' tt) (b tt)))
       go false false true a a' b b' c c' = le_trans (le_of_eq (sym (bits_subnormal (a' tt) (b' tt) (c tt)))) (small _ (kept_most (926 - e) q (far e (c tt)) digits_lt))
       go false false false a a' b b' c c' = le_trans (le_of_eq (sym (bits_normal (a' tt) (b' tt) (c' tt)))) (large e _ (b' tt) (kept_most 29 q (lit≤ tt) digits_lt))
+
+pub ruleset ranges = (bits_none, bits_infinite, bits_subnormal, bits_normal)

@@ -27,6 +27,7 @@ fn nearest_shift(n: u64, s: u64) -> u64
 }
 
 // The f32 pattern for an f64 pattern, both with the sign off.
+#[tactic(auto, using(crate::proofs::Ranges::ranges))]
 fn narrow_bits(r: u64) -> u64
     ensures { result ≡ narrow_bits r }
 {

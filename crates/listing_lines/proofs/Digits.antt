@@ -2,7 +2,7 @@
 use mathlib.Core.Path.{◌≡◌, refl}
 use mathlib.Core.List.{List, [], ◌∷◌, ◌++◌}
 use mathlib.Core.Logic.{⊎_elim}
-use Prim.Native.Nat.{ℕ, zero, suc, ◌+◌, ◌-◌, ◌/◌, ◌%◌, ◌^◌, ◌≤◌, ◌<◌}
+use Prim.Native.Nat.{ℕ, zero, suc, ◌-◌, ◌/◌, ◌%◌, ◌^◌, ◌≤◌, ◌<◌}
 use native.Mathlib.Nat.{pow-succ'}
 use native.Mathlib.Numerals.{add-one}
 use native.Mathlib.Omega.{arith}
@@ -54,3 +54,5 @@ pub hexadecimal_length : (k n : ℕ) → length (hexadecimal k n) ≡ k
 unfolding hexadecimal
 hexadecimal_length zero n = refl
 hexadecimal_length (suc k) n = simp (length-append, hexadecimal_length k (n / 16)) (add-one k)
+
+pub ruleset decimals = (decimal_one, decimal_more)

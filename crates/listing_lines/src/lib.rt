@@ -38,6 +38,7 @@ fn digit(d: u64) -> u8
     digits[d as usize]
 }
 
+#[tactic(auto, using(crate::proofs::Digits::decimals))]
 fn append_decimal(n: u64, at: usize, out: &mut [u8]) -> usize
     ensures { Appends (decimal n) at out.old result out.new }
 {

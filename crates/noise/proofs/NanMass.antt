@@ -33,3 +33,5 @@ differs_nan x h = sym (ap is_nan (differs x h))
 
 pub same_number : (x : Float) → ne x x ≡ false → is_nan x ≡ false
 same_number x h = is_false (is_nan x) (equals_itself x h)
+
+pub ruleset by_nan = (nan_none, number_as_before, differs_nan, same_number)

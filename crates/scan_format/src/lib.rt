@@ -15,6 +15,7 @@ pub enum ScanDataFormat {
 }
 
 impl ScanDataFormat {
+    #[tactic(auto, unfolding(crate::specs::Format::format_of))]
     pub fn detect(version: u32, flat_peaks: bool) -> ScanDataFormat
         ensures { result ≡ format_of version flat_peaks }
     {

@@ -1,6 +1,5 @@
 -- `event_preamble::decode` meets its contract: `cc` joins the eleven fields with the calls.
 use Rattle.event_preamble.specs.Settings.{settings}
-use borrow.Author.Rules.{rules}
 use Rattle.event_preamble.proofs.decode.Goals as goal
 
 pub returns : goal.returns

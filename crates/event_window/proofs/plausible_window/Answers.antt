@@ -1,6 +1,6 @@
 -- `event_window::plausible_window` meets its contract.
 use native.Mathlib.Omega.{arith}
-use Rattle.event_window.proofs.Search.{too_few, stands, implausible}
+use Rattle.event_window.proofs.Search.{stands, implausible}
 use Rattle.event_window.proofs.plausible_window.Goals as goal
 
 pub returns-in-Ends : goal.returns-in-Ends
@@ -10,6 +10,3 @@ returns-in-Ends c =
 pub returns-in_default : goal.returns-in_default
 returns-in_default c =
     implausible _ _ (omega arith) c.u64_at-low.ensures c.u64_at-high.ensures (rw (← c.f64_of_bits.ensures, ← c.f64_of_bits-then-remaining-ge16.ensures) c.window_of-window.ensures) c.in_default.is
-
-pub returns-else-remaining-ge16 : goal.returns-else-remaining-ge16
-returns-else-remaining-ge16 c = too_few _ _ (omega arith)

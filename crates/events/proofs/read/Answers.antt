@@ -2,7 +2,6 @@
 use Rattle.lists.proofs.Left.{left_same}
 use Rattle.event_writer.proofs.Reading.{read_refused, read_found}
 use Rattle.events.proofs.Ends.{then_read}
-use borrow.Author.Rules.{rules}
 use Rattle.events.proofs.read.Goals as goal
 
 pub returns-in-Refused : goal.returns-in-Refused

@@ -1,10 +1,7 @@
 -- `listing_lines::append_decimal` meets its contract, by recursion: each call writes one digit after those of the call within it.
 use Rattle.listing_lines.proofs.Places.{append_then}
-use Rattle.listing_lines.proofs.Digits.{decimal_one, decimal_more}
+use Rattle.listing_lines.proofs.Digits.{decimal_more}
 use Rattle.listing_lines.proofs.+append_decimal.Goals as goal
-
-pub returns-then-n-lt10 : goal.returns-then-n-lt10
-returns-then-n-lt10 t c = rw (decimal_one c.args.n c.if-n-lt10.true, ← c.digit.ensures) c.append.ensures
 
 pub returns : goal.returns
 returns t c =

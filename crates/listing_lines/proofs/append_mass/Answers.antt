@@ -1,7 +1,6 @@
 -- `listing_lines::append_mass` meets its contract.
 use mathlib.Core.Path.{sym, ap, ◌∙◌}
 use Rattle.refusal.specs.Number.{outcome_of_count}
-use borrow.Author.Rules.{rules}
 use Rattle.listing_lines.proofs.append_mass.Goals as goal
 
 pub returns-in-Count : goal.returns-in-Count

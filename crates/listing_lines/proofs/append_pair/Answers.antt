@@ -1,6 +1,5 @@
 -- `listing_lines::append_pair` meets its contract: its parts make the line.
 use Rattle.listing_lines.proofs.Places.{append_then}
-use borrow.Author.Rules.{rules}
 use Rattle.listing_lines.proofs.append_pair.Goals as goal
 
 pub returns : goal.returns

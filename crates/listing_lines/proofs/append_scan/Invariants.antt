@@ -1,12 +1,7 @@
 -- `listing_lines::append_scan` meets its contract: a turn writes one pair's line after those of the pairs before.
-use mathlib.Core.Path.{◌∙◌}
-use Prim.Native.Nat.{◌-◌, ◌<◌, min}
-use native.Mathlib.Omega.{arith}
-use lib.ListN.{length}
+use Prim.Native.Nat.{◌-◌}
 use Rattle.listing_lines.specs.Internal.{Appends}
-use Rattle.listing_lines.proofs.Places.{append_none, append_then}
-use Rattle.listing_lines.proofs.Listing.{lines_to, turn, end, with_count}
-use borrow.Author.Rules.{rules}
+use Rattle.listing_lines.proofs.Listing.{lines_to}
 use Rattle.listing_lines.proofs.append_scan.Given as goal
 
 abbrev pub invariant-loop-i : goal.invariant-loop-i

@@ -1,7 +1,6 @@
 -- `listing_lines::mass_size` meets its contract.
 use Rattle.listing_lines.proofs.Places.{append_front}
 use Rattle.listing_lines.proofs.Room.{mass_most}
-use borrow.Author.Rules.{rules}
 use Rattle.listing_lines.proofs.mass_size.Goals as goal
 
 pub returns : goal.returns

@@ -1,14 +1,13 @@
 -- `listing_lines::scan_fits` meets its contract: the first line's length, and a pair's in each turn, until there are too many.
 use mathlib.Core.Path.{◌≡◌, sym}
-use Prim.Native.Nat.{ℕ, ◌+◌, ◌-◌, ◌<◌, ◌≤◌, min}
+use Prim.Native.Nat.{ℕ, ◌<◌, ◌≤◌, min}
 use native.Mathlib.Omega.{arith}
 use lib.Ieee.{Float}
 use lib.ListN.{length}
 use borrow.Author.Tests.{lt-leb}
 use Rattle.listing_lines.specs.Lines.{mass_text, scan_lines}
 use Rattle.listing_lines.proofs.Room.{mass_most}
-use Rattle.listing_lines.proofs.Listing.{lines_from, size_turn, size_end, first_size}
-use borrow.Author.Rules.{rules}
+use Rattle.listing_lines.proofs.Listing.{size_turn, size_end, first_size}
 use Rattle.listing_lines.proofs.scan_fits.Goals as goal
 
 pub loop-measured-init : goal.loop-measured-init

@@ -1,14 +1,9 @@
 -- `listing_lines::scan_fits` meets its contract: the first line's length, and a pair's in each turn, until there are too many.
-use mathlib.Core.Path.{◌≡◌, sym}
-use Prim.Native.Nat.{ℕ, ◌+◌, ◌-◌, ◌<◌, ◌≤◌, min}
-use native.Mathlib.Omega.{arith}
-use lib.Ieee.{Float}
+use mathlib.Core.Path.{◌≡◌}
+use Prim.Native.Nat.{◌+◌, ◌-◌}
 use lib.ListN.{length}
-use borrow.Author.Tests.{lt-leb}
-use Rattle.listing_lines.specs.Lines.{mass_text, scan_lines}
-use Rattle.listing_lines.proofs.Room.{mass_most}
-use Rattle.listing_lines.proofs.Listing.{lines_from, size_turn, size_end, first_size}
-use borrow.Author.Rules.{rules}
+use Rattle.listing_lines.specs.Lines.{scan_lines}
+use Rattle.listing_lines.proofs.Listing.{lines_from}
 use Rattle.listing_lines.proofs.scan_fits.Given as goal
 
 -- what is added up, and what is still to come

@@ -3,7 +3,6 @@ use mathlib.Core.Path.{sym, ◌∙◌}
 use borrow.Author.Tests.{leb-true, leb-false}
 use Rattle.lists.proofs.Left.{list_no_room, list_written}
 use Rattle.listing_lines.proofs.Places.{append_front}
-use borrow.Author.Rules.{rules}
 use Rattle.listing_lines.proofs.write_scan_lines.Goals as goal
 
 pub returns-then-scan_fits : goal.returns-then-scan_fits

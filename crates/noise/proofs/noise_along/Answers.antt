@@ -1,22 +1,11 @@
 -- `noise::noise_along` meets its contract. The invariant: what is left to work out is `answer_from` at the k-th node.
 use mathlib.Core.Path.{sym, ◌∙◌}
-use native.Mathlib.Omega.{arith}
 use borrow.Author.Rules.{rules}
-use Rattle.noise.proofs.Walk.{no_nodes, first_reaches, first_passed, next_reaches, next_passed, all_passed}
+use Rattle.noise.proofs.Walk.{no_nodes, next_reaches, next_passed, all_passed}
 use Rattle.noise.proofs.noise_along.Goals as goal
 
 pub returns-then-count-eq0 : goal.returns-then-count-eq0
 returns-then-count-eq0 c = no_nodes _ _ _ c.if-count-eq0.true
-
-pub returns-then-x-first : goal.returns-then-x-first
-returns-then-x-first c =
-    let first = c.node_at-first.ensures in
-    c.stored_at.ensures ∙ first_reaches _ _ _ (omega arith) (rw first at c.if-x-first.true)
-
-pub loop-k-init : goal.loop-k-init
-loop-k-init c =
-    let first = c.node_at-first.ensures in
-    (search rules, omega arith, first_passed _ _ _ (omega arith) (rw first at c.if-x-first.false))
 
 pub returns-then-x-hi : goal.returns-then-x-hi
 returns-then-x-hi c =
