@@ -1,5 +1,5 @@
 -- A tray with a header has its 32 bytes, and `listing::print_scan` answers the place after its scan's event.
-use Rattle.std.proofs.Common.{◌≤◌, arith, ap, ◌∙◌, drop, length}
+use Rattle.std.proofs.Common.{arith, ap, ◌∙◌, drop}
 use Rattle.tray_header.proofs.Found.{whole}
 use Rattle.tray_scan.specs.Scan.{end_in, place_or_end}
 use Rattle.tray.proofs.Headers.{run_is}
