@@ -1,4 +1,4 @@
-// Floats and their bit patterns, in the terms of lib.Ieee: `of_bits f b` is the value of the pattern b in
+// Floats and their bit patterns, in the terms of std's Float: `from_bits f b` is the value of the pattern b in
 // the format f, and `to_bits f x` the pattern of x. There is one NaN: every NaN pattern is read as it, and
 // it is written as 0x7ff8_0000_0000_0000, in an `f32` as 0x7fc0_0000.
 #![tactic(auto)]

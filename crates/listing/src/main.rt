@@ -2,7 +2,7 @@
 // `listing_tray`, scan by scan. An input that cannot be read is no tray: standard error says what happened.
 #![tactic(auto)]
 
-ghost use Rattle.std.specs.Prelude.{◌≡◌, suc, ◌≤◌, ◌<◌, length, drop, IfOk};
+ghost use Rattle.std.specs.Prelude.{◌≡◌, suc, ◌≤◌, ◌<◌, length, drop};
 ghost use Rattle.refusal.specs.Outcome.{ok};
 ghost use Rattle.tray_header.specs.Header.{read_tray_header};
 ghost use Rattle.listing_tray.specs.Internal.{walked_place};
@@ -14,70 +14,68 @@ use std::io;
 use std::io::{Read, Write};
 use tray_header::{TrayHeader, TrayHeaderAnswer, read_tray_header};
 
-// What was written of the buffer, which holds every text: the lines of a scan take at most 55,360 bytes.
-fn print<W: Write>(to: &mut W, out: &[u8; 57344], answer: CountAnswer) -> io::Result<()> {
+// What was written of the buffer, which holds every text: the lines of a scan take at most 55,360 bytes. There is nobody to tell
+// if the output fails.
+fn print<W: Write>(to: &mut W, out: &[u8; 57344], answer: CountAnswer) {
     let CountAnswer::Count(n) = answer else {
-        return Ok(());
+        return;
     };
     let whole = &out[..];
     if n <= whole.len() as u64 {
         let end = n as usize;
-        to.write_all(&whole[0..end])?;
+        let _ = to.write_all(&whole[0..end]);
     }
-    Ok(())
 }
 
-fn print_header<W: Write>(to: &mut W, header: TrayHeaderAnswer) -> io::Result<()> {
+fn print_header<W: Write>(to: &mut W, header: TrayHeaderAnswer) {
     let mut out = [0u8; 57344];
     let answer = list_header(header, &mut out);
-    print(to, &out, answer)
+    print(to, &out, answer);
 }
 
 // Scan k, whose event is read at a place of the run. The place for the next one.
-fn print_scan<W: Write>(to: &mut W, tray: &[u8], h: TrayHeader, k: u32, at: u64) -> io::Result<u64>
+fn print_scan<W: Write>(to: &mut W, tray: &[u8], h: TrayHeader, k: u32, at: u64) -> u64
     requires h_value { ok h ≡ read_tray_header tray.now }
     requires k_lt_scans { k < h.scans }
     requires at_value { at ≡ walked_place h k (drop 32 tray.now) }
-    ensures { IfOk result (λ next. next ≡ walked_place h (suc k) (drop 32 tray.now)) }
+    ensures { result ≡ walked_place h (suc k) (drop 32 tray.now) }
 {
     let mut out = [0u8; 57344];
     let listed = list_scan(&tray[32..], at, h, k, &mut out);
     let answer = listed.written;
-    print(to, &out, answer)?;
-    Ok(listed.next)
+    print(to, &out, answer);
+    listed.next
 }
 
-fn print_scans<W: Write>(to: &mut W, tray: &[u8], h: TrayHeader) -> io::Result<()>
+fn print_scans<W: Write>(to: &mut W, tray: &[u8], h: TrayHeader)
     requires { ok h ≡ read_tray_header tray.now }
 {
     let mut at = h.events as u64;
     let mut k: u32 = 0;
     while k < h.scans {
-        at = print_scan(to, tray, h, k, at)?;
+        at = print_scan(to, tray, h, k, at);
         k = k + 1;
     }
-    Ok(())
 }
 
 // The header is read once.
-fn print_tray<W: Write>(to: &mut W, tray: &[u8]) -> io::Result<()>
+fn print_tray<W: Write>(to: &mut W, tray: &[u8])
     requires { length tray.now ≤ 24576 }
 {
     let header = read_tray_header(tray);
-    print_header(to, header)?;
+    print_header(to, header);
     if let TrayHeaderAnswer::Header(h) = header {
-        print_scans(to, tray, h)?;
+        print_scans(to, tray, h);
     }
-    Ok(())
 }
 
 // A longer tray prints only `L`.
-fn print_listing<W: Write>(to: &mut W, input: &[u8; 24577], n: usize) -> io::Result<()> {
+fn print_listing<W: Write>(to: &mut W, input: &[u8; 24577], n: usize) {
     let whole = &input[..];
     if n <= 24576 {
-        print_tray(to, &whole[0..n])
+        print_tray(to, &whole[0..n]);
     } else {
-        to.write_all(b"L\n")
+        let _ = to.write_all(b"L\n");
     }
 }
 
@@ -97,6 +95,6 @@ fn read_input<R: Read>(from: &mut R, input: &mut [u8]) -> io::Result<usize> {
 fn main(rt: HostRuntime) -> anyhow::Result<()> {
     let mut input = [0u8; 24577];
     let n = read_input(&mut rt.reader(), &mut input).context("standard input")?;
-    print_listing(&mut io::writer(&rt), &input, n).context("standard output")?;
+    print_listing(&mut io::writer(&rt), &input, n);
     Ok(())
 }

@@ -3,7 +3,9 @@ ghost use Rattle.std.specs.Prelude.{◌≤◌, ◌<◌, length, IfOk};
 
 use crate::words;
 use probe_text::{answer, request};
-use std::io::{Read, Result, Write};
+use std::alloc::AllocError;
+use std::io;
+use std::io::{Read, Write};
 
 // The longest line that may be a request.
 const LONGEST: usize = 65536;
@@ -19,8 +21,9 @@ fn answer_line(line: &[u8], data: &mut [u8], out: &mut [u8], n: usize) -> usize 
     answer::put_byte(out, n, b'\n')
 }
 
-// An answer that fills `out` may lack its end: there is room for it once `out` has grown.
-fn answer_whole(line: &[u8], data: &mut [u8], out: &mut Vec<u8>) -> Result<usize>
+// An answer that fills `out` may lack its end: there is room for it once `out` has grown. Where there is no memory for that,
+// nothing is answered.
+fn answer_whole(line: &[u8], data: &mut [u8], out: &mut Vec<u8>) -> Result<usize, AllocError>
     ensures { IfOk result (λ n. n < length out.new.items) }
 {
     let mut n = answer_line(line, data, out, 0);
@@ -32,13 +35,13 @@ fn answer_whole(line: &[u8], data: &mut [u8], out: &mut Vec<u8>) -> Result<usize
     Ok(n)
 }
 
-// Where the whole lines end.
+// Where the whole lines end. Without memory for an answer the lines before it are answered.
 fn answer_lines<W: Write>(
     to: &mut W,
     input: &[u8],
     data: &mut [u8],
     out: &mut Vec<u8>,
-) -> Result<usize>
+) -> Result<usize, AllocError>
     ensures { IfOk result (λ end. end ≤ length input.now) }
 {
     let mut at: usize = 0;
@@ -48,7 +51,7 @@ fn answer_lines<W: Write>(
             break;
         }
         let n = answer_whole(&input[at..end], data, out)?;
-        answer::flush(to, out, n)?;
+        answer::flush(to, out, n);
         at = end + 1;
     }
     Ok(at)
@@ -72,17 +75,22 @@ fn keep(input: &mut [u8], at: usize, end: usize) -> usize
 }
 
 // At the input's end a rest without line feed is a last line.
-fn finish<W: Write>(to: &mut W, rest: &[u8], data: &mut [u8], out: &mut Vec<u8>) -> Result<()> {
+fn finish<W: Write>(
+    to: &mut W,
+    rest: &[u8],
+    data: &mut [u8],
+    out: &mut Vec<u8>,
+) -> Result<(), AllocError> {
     if rest.len() == 0 {
         return Ok(());
     }
     let n = answer_whole(rest, data, out)?;
-    answer::flush(to, out, n)?;
+    answer::flush(to, out, n);
     Ok(())
 }
 
 // Reads until `buf` is full or the input ends: how many bytes stand at its front then.
-fn read_full<R: Read>(from: &mut R, buf: &mut [u8]) -> Result<usize>
+fn read_full<R: Read>(from: &mut R, buf: &mut [u8]) -> io::Result<usize>
     ensures { IfOk result (λ n. n ≤ length buf.new) }
 {
     let mut n: usize = 0;
@@ -102,13 +110,14 @@ pub(crate) fn serve<R: Read, W: Write>(
     input: &mut [u8],
     data: &mut [u8],
     out: &mut Vec<u8>,
-) -> Result<()> {
+) -> io::Result<()> {
     let mut held: usize = 0;
     let mut round: u64 = 0;
     while round < ROUNDS {
         let more = read_full(from, &mut input[held..])?;
         if more == 0 {
-            return finish(to, &input[0..held], data, out);
+            finish(to, &input[0..held], data, out)?;
+            return Ok(());
         }
         let end = held + more;
         let at = answer_lines(to, &input[0..end], data, out)?;

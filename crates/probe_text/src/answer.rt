@@ -1,18 +1,18 @@
 // The text of answers. It is collected in `out`, which holds `n` bytes of it: a function that adds to it answers how
 // many it holds then. Text that finds no room is left out: who lends `out` sees by a full one that it was too short.
-ghost use Rattle.std.specs.Prelude.{◌≤◌, ◌≡◌, length, IfOk};
+ghost use Rattle.std.specs.Prelude.{◌≤◌, ◌≡◌, length};
 
 use refusal::{CountAnswer, Refusal};
-use std::io::{Result, Write};
+use std::io::Write;
 
-// Writes out what is held, after which nothing is.
-pub fn flush<W: Write>(to: &mut W, out: &[u8], n: usize) -> Result<usize>
-    ensures { IfOk result (λ held. held ≡ 0) }
+// Writes out what is held, after which nothing is. There is nobody to tell if that fails.
+pub fn flush<W: Write>(to: &mut W, out: &[u8], n: usize) -> usize
+    ensures { result ≡ 0 }
 {
     if n <= out.len() {
-        to.write_all(&out[0..n])?;
+        let _ = to.write_all(&out[0..n]);
     }
-    Ok(0)
+    0
 }
 
 // One more byte, where there is room for it.

@@ -154,7 +154,7 @@ fn window_of(present: bool, low: u64, high: u64) -> Window {
 }
 
 // An event's record, and where its fields end.
-#[derive(Drop)]
+#[derive(Clone, Copy)]
 pub(crate) struct EventField {
     pub event: ScanEvent,
     pub end: usize,

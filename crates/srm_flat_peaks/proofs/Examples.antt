@@ -28,32 +28,32 @@ ten_thousand = flagged (0 ∷ 64 ∷ 28 ∷ 70 ∷ [])
 abbrev negative_zero : List ℕ
 negative_zero = flagged (0 ∷ 0 ∷ 0 ∷ 128 ∷ [])
 
-accepted-first :
+accepted_first :
     (read_flat_peaks 1 1 0 9 2 case ≡ ok ((0x407f_4080_0000_0000, 0x4000_0000) ∷ []))
     × (read_flat_peaks 1 1 0 9 2 negative_zero ≡ ok ((0x8000_0000_0000_0000, 0x4000_0000) ∷ []))
     × (read_flat_peaks 1 0 0 9 2 case ≡ refused 8 [])
     × (read_flat_peaks 0 0 7 9 1 [] ≡ ok [])
 unfolding read_flat_peaks outcome parse flat_peaks attempts attempt peaks_from repeat peak pairs_if_fit counted of_bits to_bits of_int lt eq
-accepted-first = (refl, refl, refl, refl)
+accepted_first = (refl, refl, refl, refl)
 
 -- the second attempt starts 9 bytes later, with the second of the two
-accepted-second :
+accepted_second :
     (read_flat_peaks 1 1 0 18 3 (ten ++ case) ≡ ok ((0x407f_4080_0000_0000, 0x4000_0000) ∷ []))
     × (find_flat_peaks 0 18 3 (ten ++ case) ≡ ok (9, 1))
 unfolding read_flat_peaks find_flat_peaks outcome parse flat_peaks attempts attempt peaks_from repeat peak pairs_if_fit counted of_bits to_bits of_int lt eq
-accepted-second = (refl, refl)
+accepted_second = (refl, refl)
 
 -- neither is plausible; or the section is longer than the cumulative end, wherever the data starts
-refused-2 :
+refused_2 :
     (read_flat_peaks 1 1 0 9 2 ten ≡ refused 2 [])
     × (read_flat_peaks 1 1 0 9 2 ten_thousand ≡ refused 2 [])
     × (read_flat_peaks 1 1 1 8 2 case ≡ refused 2 [])
 unfolding read_flat_peaks outcome parse flat_peaks attempts attempt peaks_from repeat peak pairs_if_fit counted of_bits to_bits of_int lt eq
-refused-2 = (refl, refl, refl)
+refused_2 = (refl, refl, refl)
 
 -- a first attempt that runs out is not followed by a second. The flag byte may be missing
-refused-1 :
+refused_1 :
     (read_flat_peaks 1 1 0 9 2 (take 7 case) ≡ refused 1 (4 ∷ []))
     × (read_flat_peaks 1 1 0 9 2 (take 8 case) ≡ ok ((0x407f_4080_0000_0000, 0x4000_0000) ∷ []))
 unfolding read_flat_peaks outcome parse flat_peaks attempts attempt peaks_from repeat peak pairs_if_fit counted of_bits to_bits of_int lt eq
-refused-1 = (refl, refl)
+refused_1 = (refl, refl)
