@@ -14,8 +14,8 @@ use std::io;
 use std::io::{Read, Write};
 use tray_header::{TrayHeader, TrayHeaderAnswer, read_tray_header};
 
-// What was written of the buffer, which holds every text: the lines of a scan take at most 55,360 bytes. There is nobody to tell
-// if the output fails.
+// What was written of the buffer, which holds every text: the lines of a scan take at most 55,360 bytes. A write that
+// fails is passed over.
 fn print<W: Write>(to: &mut W, out: &[u8; 57344], answer: CountAnswer) {
     let CountAnswer::Count(n) = answer else {
         return;

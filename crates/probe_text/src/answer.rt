@@ -5,7 +5,7 @@ ghost use Rattle.std.specs.Prelude.{◌≤◌, ◌≡◌, length};
 use refusal::{CountAnswer, Refusal};
 use std::io::Write;
 
-// Writes out what is held, after which nothing is. There is nobody to tell if that fails.
+// Writes out what is held, after which nothing is. A write that fails is passed over.
 pub fn flush<W: Write>(to: &mut W, out: &[u8], n: usize) -> usize
     ensures { result ≡ 0 }
 {
