@@ -6,28 +6,26 @@ use Prim.Native.Nat.{ℕ, ◌+◌, ◌*◌, ◌≤◌, ◌<◌}
 use borrow.Author.Tests.{le-leb, lt-leb}
 use Rattle.lists.proofs.Cases.{leb_cases}
 use Rattle.parser.specs.Parser.{Parser, bytes, little_endian, remaining, parse, word, skip, check_count}
-use Rattle.binary_reader.specs.Read.{outcome_of, outcome_of_there, reads, place_after, Moves}
+use Rattle.binary_reader.specs.Read.{outcome_of, reads, place_after, Moves}
 use Rattle.refusal.specs.Outcome.{Outcome}
 use Rattle.binary_reader.specs.declared.BinaryReader.{BinaryReader}
-use Rattle.binary_reader.specs.declared.WordAnswer.{WordAnswer}
-use Rattle.binary_reader.specs.declared.WordAnswer.TheVariants as number
-use Rattle.binary_reader.specs.declared.BytesAnswer.{BytesAnswer}
-use Rattle.binary_reader.specs.declared.BytesAnswer.TheVariants as there
+use Rattle.std.specs.Prelude.{Result, Ok, Err}
+use Rattle.binary_reader.specs.declared.RanOut.{RanOut}
 
 module _ (s : List ℕ) (at n : ℕ) where
-  pub word_there : n ≤ remaining s at → {w : ℕ} → w ≡ little_endian (bytes s at n) → outcome_of (number.Value w) ≡ reads (parse (word n) s at)
+  pub word_there : n ≤ remaining s at → {w : ℕ} → w ≡ little_endian (bytes s at n) → outcome_of (Ok w) ≡ reads (parse (word n) s at)
   unfolding parse
   word_there h e = rw (le-leb _ _ h, e)
 
-  pub word_short : remaining s at < n → outcome_of number.Short ≡ reads (parse (word n) s at)
+  pub word_short : remaining s at < n → outcome_of {A = ℕ} (Err r) ≡ reads (parse (word n) s at)
   unfolding parse
   word_short h = rw (lt-leb _ _ h)
 
-  pub skip_there : n ≤ remaining s at → outcome_of_there there.There ≡ reads (parse (skip n) s at)
+  pub skip_there : n ≤ remaining s at → outcome_of {A = Unit {0}} (Ok tt) ≡ reads (parse (skip n) s at)
   unfolding parse
   skip_there h = rw (le-leb _ _ h)
 
-  pub skip_short : remaining s at < n → outcome_of_there there.Short ≡ reads (parse (skip n) s at)
+  pub skip_short : remaining s at < n → outcome_of {A = Unit {0}} (Err r) ≡ reads (parse (skip n) s at)
   unfolding parse
   skip_short h = rw (lt-leb _ _ h)
 
@@ -45,25 +43,19 @@ module _ (s : List ℕ) (at n : ℕ) where
   after_word = ⊎_elim (λ e. rw e) (λ e. rw e) (leb_cases n (remaining s at))
 
 module _ (s : List ℕ) (at n size : ℕ) where
-  pub count_there : n * size ≤ remaining s at → outcome_of_there there.There ≡ reads (parse (check_count n size) s at)
+  pub count_there : n * size ≤ remaining s at → outcome_of {A = Unit {0}} (Ok tt) ≡ reads (parse (check_count n size) s at)
   unfolding parse
   count_there h = rw (le-leb _ _ h)
 
-  pub count_short : remaining s at < n * size → outcome_of_there there.Short ≡ reads (parse (check_count n size) s at)
+  pub count_short : remaining s at < n * size → outcome_of {A = Unit {0}} (Err r) ≡ reads (parse (check_count n size) s at)
   unfolding parse
   count_short h = rw (lt-leb _ _ h)
 
-pub word_answer_one : (a b : WordAnswer) → outcome_of a ≡ outcome_of b → a ≡ b
-word_answer_one (number.Value x) (number.Value y) h = cc
-word_answer_one (number.Value x) number.Short h = cc
-word_answer_one number.Short (number.Value y) h = cc
-word_answer_one number.Short number.Short h = refl
-
-pub there_answer_one : (a b : BytesAnswer) → outcome_of_there a ≡ outcome_of_there b → a ≡ b
-there_answer_one there.There there.There h = refl
-there_answer_one there.There there.Short h = cc
-there_answer_one there.Short there.There h = cc
-there_answer_one there.Short there.Short h = refl
+pub answer_one : {A : Type 0} (a b : Result A RanOut) → outcome_of a ≡ outcome_of b → a ≡ b
+answer_one (Ok x) (Ok y) h = cc
+answer_one (Ok x) (Err q) h = cc
+answer_one (Err r) (Ok y) h = cc
+answer_one (Err r) (Err q) h = refl
 
 -- a reader that was lent: one place over the same bytes. With the answer's own law above, one answer too
 pub moves_one : {A : Type 0} {p : Parser A} {r x y : BinaryReader} {a b : Outcome A} → Moves p r a x → Moves p r b y → (a ≡ b) × (x.bytes ≡ y.bytes) × (x.place ≡ y.place)

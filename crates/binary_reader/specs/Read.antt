@@ -1,14 +1,11 @@
 -- What `BinaryReader` and bytes.rs answer: what a parser reads at a place, or refusal 1, which names no part.
-use Rattle.std.specs.Prelude.{◌≡◌, ℕ, []}
+use Rattle.std.specs.Prelude.{◌≡◌, ℕ, [], Result, Ok, Err}
 use Rattle.refusal.specs.Outcome.{Outcome, ok, refused}
 use Rattle.parser.specs.Parser.{Parser, Parsed, short, parsed, parse}
 use Rattle.binary_reader.specs.declared.BinaryReader.{BinaryReader}
 use Rattle.binary_reader.specs.declared.Width.{Width}
 use Rattle.binary_reader.specs.declared.Width.TheVariants.{One, Two, Four, Eight}
-use Rattle.binary_reader.specs.declared.WordAnswer.{WordAnswer}
-use Rattle.binary_reader.specs.declared.WordAnswer.TheVariants as number
-use Rattle.binary_reader.specs.declared.BytesAnswer.{BytesAnswer}
-use Rattle.binary_reader.specs.declared.BytesAnswer.TheVariants as there
+use Rattle.binary_reader.specs.declared.RanOut.{RanOut}
 
 abbrev pub width : Width → ℕ
 width One = 1
@@ -26,14 +23,10 @@ abbrev pub place_after : {A : Type 0} → ℕ → Parsed A → ℕ
 place_after at short = at
 place_after at (parsed a next) = next
 
--- both answers in document 01's terms
-abbrev pub outcome_of : WordAnswer → Outcome ℕ
-outcome_of (number.Value n) = ok n
-outcome_of number.Short = refused 1 []
-
-abbrev pub outcome_of_there : BytesAnswer → Outcome (Unit {0})
-outcome_of_there there.There = ok tt
-outcome_of_there there.Short = refused 1 []
+-- an answer in document 01's terms
+abbrev pub outcome_of : {A : Type 0} → Result A RanOut → Outcome A
+outcome_of (Ok a) = ok a
+outcome_of (Err r) = refused 1 []
 
 -- a call that reads by p was lent the reader r: its answer has the outcome o, and it leaves r after what was read, over the same bytes
 pub record Moves {A : Type 0} (p : Parser A) (r : BinaryReader) (o : Outcome A) (r' : BinaryReader) : Type 0 where

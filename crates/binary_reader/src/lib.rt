@@ -6,7 +6,7 @@
 
 ghost use Rattle.std.specs.Prelude.{◌≡◌};
 ghost use Rattle.parser.specs.Parser.{bytes, parse, word, skip, check_count, word_at};
-ghost use Rattle.binary_reader.specs.Read.{width, outcome_of, outcome_of_there, reads, place_after, Moves};
+ghost use Rattle.binary_reader.specs.Read.{width, outcome_of, reads, place_after, Moves};
 
 use reader::{remaining, u8_at, u16_at, u32_at, u64_at};
 
@@ -19,19 +19,9 @@ pub enum Width {
     Eight,
 }
 
-// A number, or refusal 1.
+// The reader's own refusal 1, which names no part.
 #[derive(Clone, Copy)]
-pub enum WordAnswer {
-    Value(u64),
-    Short,
-}
-
-// The bytes are there, or refusal 1.
-#[derive(Clone, Copy)]
-pub enum BytesAnswer {
-    There,
-    Short,
-}
+pub struct RanOut;
 
 fn bytes_of(size: Width) -> u64
     ensures { result ≡ width size }
@@ -57,36 +47,36 @@ fn number_at(run: &[u8], at: u64, size: Width) -> u64
 }
 
 // The number of so many bytes at a place of a run.
-pub fn read_at(run: &[u8], at: u64, size: Width) -> WordAnswer
+pub fn read_at(run: &[u8], at: u64, size: Width) -> Result<u64, RanOut>
     ensures { outcome_of result ≡ reads (parse (word (width size)) run.now at) }
 {
     if bytes_of(size) <= remaining(run, at) {
-        return WordAnswer::Value(number_at(run, at, size));
+        return Ok(number_at(run, at, size));
     }
-    WordAnswer::Short
+    Err(RanOut)
 }
 
 // `read_u32_le` and `read_f64_le` of bytes.rs; an f64 is handed out by its bits.
-pub fn read_u32_le(data: &[u8], offset: u64) -> WordAnswer
+pub fn read_u32_le(data: &[u8], offset: u64) -> Result<u64, RanOut>
     ensures { outcome_of result ≡ reads (parse (word 4) «data».now offset) }
 {
     read_at(data, offset, Width::Four)
 }
 
-pub fn read_f64_le(data: &[u8], offset: u64) -> WordAnswer
+pub fn read_f64_le(data: &[u8], offset: u64) -> Result<u64, RanOut>
     ensures { outcome_of result ≡ reads (parse (word 8) «data».now offset) }
 {
     read_at(data, offset, Width::Eight)
 }
 
 // Whether n bytes can be passed over at a place.
-pub fn skip_at(run: &[u8], at: u64, n: u64) -> BytesAnswer
-    ensures { outcome_of_there result ≡ reads (parse (skip n) run.now at) }
+pub fn skip_at(run: &[u8], at: u64, n: u64) -> Result<(), RanOut>
+    ensures { outcome_of result ≡ reads (parse (skip n) run.now at) }
 {
     if n <= remaining(run, at) {
-        return BytesAnswer::There;
+        return Ok(());
     }
-    BytesAnswer::Short
+    Err(RanOut)
 }
 
 // The place after n bytes; a place at which they are missing stays.
@@ -106,16 +96,16 @@ fn word_after(run: &[u8], at: u64, size: Width) -> u64
 }
 
 // Whether n records of so many bytes can stand at a place. Their product may pass 64 bits, so it is not formed.
-pub fn check_count_at(run: &[u8], at: u64, n: u64, size: u64) -> BytesAnswer
-    ensures { outcome_of_there result ≡ reads (parse (check_count n size) run.now at) }
+pub fn check_count_at(run: &[u8], at: u64, n: u64, size: u64) -> Result<(), RanOut>
+    ensures { outcome_of result ≡ reads (parse (check_count n size) run.now at) }
 {
     if n == 0 {
-        return BytesAnswer::There;
+        return Ok(());
     }
     if size <= remaining(run, at) / n {
-        return BytesAnswer::There;
+        return Ok(());
     }
-    BytesAnswer::Short
+    Err(RanOut)
 }
 
 // The run's slice and a place in it.
@@ -138,7 +128,7 @@ pub fn position<'a>(r: BinaryReader<'a>) -> u64
 }
 
 // The number at the reader's place, and the reader goes on after it. Where it ran out the reader stays.
-pub fn read_word<'s, 'a>(r: &'s mut BinaryReader<'a>, size: Width) -> WordAnswer
+pub fn read_word<'s, 'a>(r: &'s mut BinaryReader<'a>, size: Width) -> Result<u64, RanOut>
     ensures { Moves (word (width size)) r.old (outcome_of result) r.new }
 {
     let next = word_after(r.bytes, r.place, size);
@@ -148,8 +138,8 @@ pub fn read_word<'s, 'a>(r: &'s mut BinaryReader<'a>, size: Width) -> WordAnswer
 }
 
 // The reader goes on after n bytes.
-pub fn skip<'s, 'a>(r: &'s mut BinaryReader<'a>, n: u64) -> BytesAnswer
-    ensures { Moves (skip n) r.old (outcome_of_there result) r.new }
+pub fn skip<'s, 'a>(r: &'s mut BinaryReader<'a>, n: u64) -> Result<(), RanOut>
+    ensures { Moves (skip n) r.old (outcome_of result) r.new }
 {
     let next = place_after(r.bytes, r.place, n);
     let answer = skip_at(r.bytes, r.place, n);
@@ -158,14 +148,14 @@ pub fn skip<'s, 'a>(r: &'s mut BinaryReader<'a>, n: u64) -> BytesAnswer
 }
 
 // Whether n records of so many bytes are left.
-pub fn check_count<'a>(r: BinaryReader<'a>, n: u64, size: u64) -> BytesAnswer
-    ensures { outcome_of_there result ≡ reads (parse (check_count n size) r.entry.bytes.now r.entry.place) }
+pub fn check_count<'a>(r: BinaryReader<'a>, n: u64, size: u64) -> Result<(), RanOut>
+    ensures { outcome_of result ≡ reads (parse (check_count n size) r.entry.bytes.now r.entry.place) }
 {
     check_count_at(r.bytes, r.place, n, size)
 }
 
 // A number through a reader, for a caller that has a slice and a place.
-pub fn word_at(run: &[u8], place: u64, size: Width) -> WordAnswer
+pub fn word_at(run: &[u8], place: u64, size: Width) -> Result<u64, RanOut>
     ensures { outcome_of result ≡ reads (parse (word (width size)) run.now place) }
 {
     let mut r = new(run, place);

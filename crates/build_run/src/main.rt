@@ -9,7 +9,7 @@ use event_preamble::decode;
 use event_record::{ScanEvent, activation};
 use event_window::Window;
 use float_bits::{bits_of_f32, bits_of_f64};
-use refusal::{CountAnswer, Refusal};
+use refusal::Refusal;
 use scan_index::ScanIndexEntry;
 use writer::{store_u8, store_u32};
 
@@ -50,7 +50,7 @@ fn event(preamble: &[u8], precursors: &[u64]) -> ScanEvent {
 // The index, right after the header.
 fn write_index(tray: &mut [u8]) -> CountAnswer {
     if tray.len() < 104 {
-        return CountAnswer::Refused(Refusal::NoRoom);
+        return Err(Refusal::NoRoom);
     }
     entry().write(VERSION, &mut tray[32..104])
 }
@@ -67,7 +67,7 @@ fn write_events(tray: &mut [u8]) -> CountAnswer {
     let masses = &precursors[..];
     let record = event(bytes, masses);
     if tray.len() < 300 {
-        return CountAnswer::Refused(Refusal::NoRoom);
+        return Err(Refusal::NoRoom);
     }
     write_before_66(
         VERSION,
@@ -106,10 +106,10 @@ fn main(rt: HostRuntime) -> anyhow::Result<()> {
     let events = write_events(&mut tray);
     store_data(&mut tray);
     match index {
-        CountAnswer::Refused(_) => bail!("the entry was refused"),
-        CountAnswer::Count(_) => match events {
-            CountAnswer::Refused(_) => bail!("the event was refused"),
-            CountAnswer::Count(_) => rt.write_all(&tray[..]).context("standard output"),
+        Err(_) => bail!("the entry was refused"),
+        Ok(_) => match events {
+            Err(_) => bail!("the event was refused"),
+            Ok(_) => rt.write_all(&tray[..]).context("standard output"),
         },
     }
 }

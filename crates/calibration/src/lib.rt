@@ -12,7 +12,7 @@ ghost use Rattle.calibration.specs.Internal.{conversion_of, mz_by, chunk_bins, m
 use float_bits::{f64_of_bits, widened};
 use lists::holds;
 use reader::{saturating_add, u32_at};
-use refusal::{CountAnswer, Refusal};
+use refusal::Refusal;
 
 // Where a profile's bins lie: the frequency of bin 0 and the distance to the next, as the bits of f64 numbers.
 #[derive(Clone, Copy)]
@@ -149,7 +149,7 @@ pub fn write_chunk(
     coefficients: &[u64],
     mz: &mut [f64],
     intensity: &mut [f64],
-) -> CountAnswer
+) -> Result<u64, Refusal>
     ensures { LeftPairs (λ m i. pairs_if_fit m i (chunk_pairs bins first_bin fudge coefficients.now run.now at n)) mz.old intensity.old result mz.new intensity.new }
 {
     if holds(n, mz.len() as u64, holds(n, intensity.len() as u64, true)) {
@@ -162,7 +162,7 @@ pub fn write_chunk(
             mz,
             intensity,
         );
-        return CountAnswer::Count(n);
+        return Ok(n);
     }
-    CountAnswer::Refused(Refusal::NoRoom)
+    Err(Refusal::NoRoom)
 }

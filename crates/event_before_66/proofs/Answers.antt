@@ -1,4 +1,5 @@
 -- What finding an event below version 66 answers, by the tests that decide it, and that it is the event which is read.
+use Rattle.std.specs.Prelude.{Ok}
 use mathlib.Core.Path.{◌≡◌, refl, sym, ap, ◌∙◌}
 use Prim.Native.Nat.{ℕ, ◌+◌, ◌*◌, ◌-◌, ◌≤◌, ◌<◌}
 use mathlib.Core.List.{List}
@@ -7,6 +8,7 @@ use lib.Dec.{leb}
 use lib.ListN.{length}
 use borrow.Author.Tests.{leb-true, le-leb, lt-leb}
 use Rattle.refusal.specs.Outcome.{ran_out}
+use Rattle.refusal.specs.Number.{outcome_of}
 use Rattle.lists.specs.Written.{each}
 use Rattle.lists.proofs.Laws.{each_below}
 use Rattle.parser.specs.Parser.{done, short, parsed, within, parse, bytes, little_endian, word_at, remaining, word, repeat, counted, ◌>>=◌}
@@ -17,9 +19,8 @@ use Rattle.layout.specs.Layout.{reads}
 use Rattle.event_preamble.specs.Size.{size_for_version}
 use Rattle.event_reactions.specs.Reactions.{in_source}
 use Rattle.event_record.specs.Event.{Event}
-use Rattle.event_record.specs.Places.{event_in, event_at, places_of, find_by, outcome_of_places}
+use Rattle.event_record.specs.Places.{event_in, event_at, places_of, find_by}
 use Rattle.event_record.specs.declared.Lists.{Lists}
-use Rattle.event_record.specs.declared.PlacesAnswer.TheVariants.{At}
 use Rattle.event_record.proofs.Holding.{Holds, there}
 use Rattle.event_before_66.specs.Layout.{reaction, lists_before_66, layout_before_66, before_66}
 use Rattle.event_before_66.proofs.Stages.{head, Middle, beyond, middle, last, tail, described, more, rest, head_sized, middle_sized, tail_sized, middle_at, head_value, middle_value, tail_value}
@@ -83,7 +84,7 @@ module _ (version : ℕ) (s : List ℕ) (at : ℕ) where
       pub whole : m * 8 + 8 ≤ remaining s (at + len + (n * 32 + 28)) → {lists : Lists}
           → lists ≡ lists_before_66 n (word_at s (at + len + (n * 32 + 8)) 8) (word_at s (at + len + (n * 32 + 16)) 8) m
           → let next = at + len + (n * 32 + 28) + (m * 8 + 8) in
-          outcome_of_places (At (record { preamble = at; preamble_len = len; lists = lists; next = next })) ≡ find_by (before_66 version) at s
+          outcome_of (Ok (record { preamble = at; preamble_len = len; lists = lists; next = next })) ≡ find_by (before_66 version) at s
       unfolding find_by outcome
       whole v e = rw (to_tail, parse_tail s (bytes s at len) n (at + len) (at + len + (n * 32 + 28)), ← hm, le-leb _ _ v, there s at len (omega arith), e)
 

@@ -1,4 +1,5 @@
 -- Codes and activations that are tested as the same are equal.
+use Rattle.std.specs.Prelude.{Some, None, Option}
 use mathlib.Core.Path.{◌≡◌, refl, ap, sym, ◌∙◌}
 use Prim.Native.Nat.{ℕ, suc, ◌+◌, ◌-◌}
 use native.Mathlib.Omega.{arith}
@@ -6,19 +7,17 @@ use mathlib.Core.Bool.{Bool, true, false, cond}
 use lib.Dec.{eqb}
 use borrow.Author.Tests.{eqb-true, eq-eqb, ne_eqb}
 use Rattle.lists.proofs.Cases.{and_true, false_not_true}
-use Rattle.codes.specs.declared.Code.{Code}
-use Rattle.codes.specs.declared.Code.TheVariants as code
 use Rattle.codes.specs.declared.Activation.{Activation}
 use Rattle.codes.specs.declared.Activation.TheVariants as activation
 use Rattle.event_preamble.specs.declared.ScanEventPreamble.{ScanEventPreamble}
 use Rattle.event_bytes.specs.Codes.{code_number, activation_number, same_code, same_activation, same_flag, same_codes}
 use Rattle.event_bytes.specs.Internal.{same_last}
 
-code_same : (a b : Code) → same_code a b ≡ true → a ≡ b
-code_same code.None code.None h = refl
-code_same code.None (code.Known y) h = absurd (omega (arith, eqb-true 0 (suc y) h))
-code_same (code.Known x) code.None h = absurd (omega (arith, eqb-true (suc x) 0 h))
-code_same (code.Known x) (code.Known y) h = let e : x ≡ y = omega (arith, eqb-true (suc x) (suc y) h) in rw e
+code_same : (a b : Option ℕ) → same_code a b ≡ true → a ≡ b
+code_same None None h = refl
+code_same None (Some y) h = absurd (omega (arith, eqb-true 0 (suc y) h))
+code_same (Some x) None h = absurd (omega (arith, eqb-true (suc x) 0 h))
+code_same (Some x) (Some y) h = let e : x ≡ y = omega (arith, eqb-true (suc x) (suc y) h) in rw e
 
 -- the activation of a number
 back : ℕ → Activation
@@ -73,14 +72,14 @@ codes_same a b h =
     fields (code_same _ _ h₁.0) (code_same _ _ h₂.0) (code_same _ _ h₃.0) (code_same _ _ h₄.0) (flag_same _ _ h₅.0) (flag_same _ _ h₆.0)
     (code_same _ _ h₇.0) (activation_same _ _ h₈.0) (eqb-true _ _ h₉.0) (flag_same _ _ h₁₀.0) (code_same _ _ h₁₁.0)
   where
-    fields : {p q r s i z p' q' r' s' i' z' : Code} {d v w d' v' w' : Bool} {x x' : Activation} {y y' : ℕ} → p ≡ p' → q ≡ q' → r ≡ r' → s ≡ s' → d ≡ d' → v ≡ v' → i ≡ i' → x ≡ x' → y ≡ y' → w ≡ w' → z ≡ z'
+    fields : {p q r s i z p' q' r' s' i' z' : Option ℕ} {d v w d' v' w' : Bool} {x x' : Activation} {y y' : ℕ} → p ≡ p' → q ≡ q' → r ≡ r' → s ≡ s' → d ≡ d' → v ≡ v' → i ≡ i' → x ≡ x' → y ≡ y' → w ≡ w' → z ≡ z'
         → ◌≡◌ {A = ScanEventPreamble}
         (record { polarity = p; scan_mode = q; ms_power = r; scan_type = s; dependent = d; dia = v; ionization = i; activation = x; activation_byte = y; wideband = w; analyzer = z })
         (record { polarity = p'; scan_mode = q'; ms_power = r'; scan_type = s'; dependent = d'; dia = v'; ionization = i'; activation = x'; activation_byte = y'; wideband = w'; analyzer = z' })
     fields a b c d e f g h i j k = rw (a, b, c, d, e, f, g, h, i, j, k)
 
 -- and a value is tested as the same as itself
-code_itself : (a : Code) → same_code a a ≡ true
+code_itself : (a : Option ℕ) → same_code a a ≡ true
 code_itself a = eq-eqb (code_number a) (code_number a) refl
 
 pub activation_itself : (a : Activation) → same_activation a a ≡ true

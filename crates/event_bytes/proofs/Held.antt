@@ -1,4 +1,5 @@
 -- A record that is held and slices that hold its lists: what is written of them, and how long it is.
+use Rattle.std.specs.Prelude.{Ok, Err}
 use mathlib.Core.Path.{◌≡◌, sym, ◌∙◌}
 use mathlib.Core.Logic.{⊎_elim}
 use Prim.Native.Nat.{ℕ, ◌+◌, ◌*◌, ◌^◌, ◌<◌}
@@ -9,7 +10,6 @@ use lib.Dec.{ltb, eqb}
 use lib.ListN.{length, take, length-take}
 use lib.Seq.{sets}
 use borrow.Author.Tests.{ltb-true, eqb-true}
-use Rattle.refusal.specs.declared.CountAnswer.TheVariants.{Count, Refused}
 use Rattle.refusal.specs.declared.Refusal.TheVariants.{NoRoom}
 use Rattle.lists.specs.Filter.{all}
 use Rattle.lists.specs.Left.{fits, LeftListBy}
@@ -90,14 +90,14 @@ module _ (version : ℕ) (e : ScanEvent) (p q r c out : List ℕ) where
       let z : length (zip (take e.reactions q) (take e.reactions r)) ≡ e.reactions = length-zip (take e.reactions q) (take e.reactions r) ∙ omega (arith, b, d) in
       event_size version (window_in e) (take e.preamble_len p) (take e.reactions q) (take e.reactions r) (take e.coefficients c) ∙ rw (a, z, f) (omega arith)
 
-  pub event_written : fits (counts size) lent ≡ true → {ys : List ℕ} → ys ≡ sets out 0 bs → LeftListBy (write_if_fits version e p q r c) out (Count size) ys
+  pub event_written : fits (counts size) lent ≡ true → {ys : List ℕ} → ys ≡ sets out 0 bs → LeftListBy (write_if_fits version e p q r c) out (Ok size) ys
   unfolding write_if_fits
   event_written h {ys} w =
       let n : length bs ≡ size = size_is size h in
       let room : fits (counts (length bs)) lent ≡ true = rw n h in
       left_written {a = bs} (rw room) (sym n) (w ∙ sets_over bs out (rw n (fits_true (counts size) lent h).1.1.1.1.0))
 
-  pub event_no_room : fits (counts size) lent ≡ false → LeftListBy (write_if_fits version e p q r c) out (Refused NoRoom) out
+  pub event_no_room : fits (counts size) lent ≡ false → LeftListBy (write_if_fits version e p q r c) out (Err NoRoom) out
   unfolding write_if_fits
   event_no_room h =
       let few : fits (counts (length bs)) lent ≡ false =

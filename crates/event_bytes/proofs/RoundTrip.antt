@@ -1,4 +1,5 @@
 -- L3: an event that was written reads back.
+use Rattle.std.specs.Prelude.{Result}
 use mathlib.Core.Path.{◌≡◌, refl, ap, sym, ◌∙◌}
 use Prim.Native.Nat.{ℕ, zero, suc, ◌+◌, ◌*◌, ◌-◌, ◌^◌, ◌≤◌, ◌<◌}
 use native.Mathlib.Omega.{arith}
@@ -11,8 +12,8 @@ use lib.Ieee.Bits.{of_bits-to_bits, of_bits-fits}
 use lib.ListN.{length, take, drop, length-take, length-append}
 use borrow.Author.Tests.{le-leb, lt-leb, eqb-true}
 use Rattle.refusal.specs.Outcome.{ok}
-use Rattle.refusal.specs.Number.{outcome_of_count}
-use Rattle.refusal.specs.declared.CountAnswer.{CountAnswer}
+use Rattle.refusal.specs.Number.{outcome_of}
+use Rattle.refusal.specs.declared.Refusal.{Refusal}
 use Rattle.lists.specs.Left.{fits, if_fits, lengths, lists_if_fit, LeftListBy, firsts, seconds}
 use Rattle.lists.proofs.Cases.{and_true, false_not_true}
 use Rattle.lists.proofs.Left.{fits_true, wrote}
@@ -185,8 +186,8 @@ module _ (version : ℕ) (e : ScanEvent) (p q r c : List ℕ) (t : Typed e) (h :
 
 -- What a call wrote that was not refused reads back, wherever the slice stands in a run and whatever follows it: the record, the event's
 -- length and every element of its lists. It is never refused where the slices hold them
-pub event_reads_back : (version : ℕ) (e : ScanEvent) (p q r c : List ℕ) → Typed e → Words q → Words r → Words c → (xs ys : List ℕ) (a : CountAnswer) (n : ℕ)
-    → LeftListBy (write_before_66 version e p q r c) xs a ys → outcome_of_count a ≡ ok n
+pub event_reads_back : (version : ℕ) (e : ScanEvent) (p q r c : List ℕ) → Typed e → Words q → Words r → Words c → (xs ys : List ℕ) (a : Result ℕ Refusal) (n : ℕ)
+    → LeftListBy (write_before_66 version e p q r c) xs a ys → outcome_of a ≡ ok n
     → (run : List ℕ) (at : ℕ) (more : List ℕ) → drop at run ≡ ys ++ more
     → (primary dependent : ℕ) (capacities : List ℕ) → fits (e.preamble_len ∷ e.reactions ∷ e.reactions ∷ e.coefficients ∷ []) capacities ≡ true
     → read_event version primary dependent capacities at run

@@ -1,4 +1,5 @@
 -- L3: an event that was read is held, and writes back to its own bytes.
+use Rattle.std.specs.Prelude.{Result}
 use mathlib.Core.Path.{◌≡◌, refl, ap, ◌∙◌}
 use Prim.Native.Nat.{ℕ, zero, suc, ◌+◌, ◌*◌, ◌-◌, ◌^◌, ◌≤◌, ◌<◌}
 use native.Mathlib.Nat.{zero-mul, suc-mul, add-zero}
@@ -10,6 +11,8 @@ use lib.ListN.{length, take, drop, length-append, length-map, length-take, lengt
 use lib.Seq.{take-append_seam}
 use borrow.Author.Tests.{le-leb, lt-leb, lt-ltb, eq-eqb}
 use Rattle.refusal.specs.Outcome.{ok}
+use Rattle.refusal.specs.Number.{outcome_of}
+use Rattle.refusal.specs.declared.Refusal.{Refusal}
 use Rattle.lists.specs.Written.{over}
 use Rattle.lists.specs.Left.{fits, if_fits, lengths, lists_if_fit, LeftLists, over_all, firsts, seconds}
 use Rattle.lists.proofs.Left.{wrote, room_true}
@@ -29,8 +32,7 @@ use Rattle.event_preamble.specs.Size.{size_for_version}
 use Rattle.event_preamble.specs.Settings.{settings}
 use Rattle.event_reactions.specs.Reactions.{Reaction}
 use Rattle.event_record.specs.Activation.{event_activation}
-use Rattle.event_record.specs.Event.{Event, describe, answer_of, event_lists, event_if_fits, outcome_of}
-use Rattle.event_record.specs.declared.EventAnswer.{EventAnswer}
+use Rattle.event_record.specs.Event.{Event, describe, answer_of, event_lists, event_if_fits}
 use Rattle.event_record.specs.declared.EventAndNext.{EventAndNext}
 use Rattle.event_record.specs.declared.Lists.{Lists}
 use Rattle.event_before_66.specs.Layout.{reaction, layout_before_66, before_66}
@@ -183,7 +185,7 @@ four : {a b c d a' b' c' d' : List ℕ} → ◌≡◌ {A = List (List ℕ)} (a �
 four h = (cc, cc, cc, cc)
 
 -- the slices after a read that was not refused
-module _ (version : ℕ) (low : version < 66) (run : List ℕ) (is_bytes : Bytes run) (at primary dependent : ℕ) (x₀ x₁ x₂ x₃ p q r c : List ℕ) (a : EventAnswer) {v : EventAndNext}
+module _ (version : ℕ) (low : version < 66) (run : List ℕ) (is_bytes : Bytes run) (at primary dependent : ℕ) (x₀ x₁ x₂ x₃ p q r c : List ℕ) (a : Result EventAndNext Refusal) {v : EventAndNext}
     (l : LeftLists (λ capacities. read_event version primary dependent capacities at run) (x₀ ∷ x₁ ∷ x₂ ∷ x₃ ∷ []) (outcome_of a) (p ∷ q ∷ r ∷ c ∷ [])) (ha : outcome_of a ≡ ok v) where
   record Stood : Type 0 where
     event : Event

@@ -1,16 +1,14 @@
 -- When two records of a preamble's codes, and two activations, are the same.
-use Rattle.std.specs.Prelude.{ℕ, suc, ◌+◌, Bool, not, cond, [], ◌∷◌, eqb}
+use Rattle.std.specs.Prelude.{ℕ, suc, ◌+◌, Bool, not, cond, [], ◌∷◌, eqb, Some, None, Option}
 use Rattle.lists.specs.Filter.{all}
-use Rattle.codes.specs.declared.Code.{Code}
-use Rattle.codes.specs.declared.Code.TheVariants as code
 use Rattle.codes.specs.declared.Activation.{Activation}
 use Rattle.codes.specs.declared.Activation.TheVariants as activation
 use Rattle.event_preamble.specs.declared.ScanEventPreamble.{ScanEventPreamble}
 
 -- numbers that tell codes and activations apart
-abbrev pub code_number : Code → ℕ
-code_number code.None = 0
-code_number (code.Known c) = suc c
+abbrev pub code_number : Option ℕ → ℕ
+code_number None = 0
+code_number (Some c) = suc c
 
 abbrev pub activation_number : Activation → ℕ
 activation_number activation.None = 0
@@ -20,7 +18,7 @@ activation_number activation.ETD = 3
 activation_number activation.EThcD = 4
 activation_number (activation.Unknown byte) = byte + 5
 
-abbrev pub same_code : Code → Code → Bool
+abbrev pub same_code : Option ℕ → Option ℕ → Bool
 same_code a b = eqb (code_number a) (code_number b)
 
 abbrev pub same_activation : Activation → Activation → Bool

@@ -10,14 +10,14 @@ ghost use Rattle.event_bytes.specs.Codes.{code_number, activation_number, same_c
 ghost use Rattle.event_bytes.specs.Write.{zip, event_from, codes_given, activation_given, window_given, held_before_66, write_if_fits, write_before_66};
 ghost use Rattle.event_bytes.specs.Internal.{Small, same_last};
 
-use codes::{Activation, Code};
+use codes::Activation;
 use event_preamble::{ScanEventPreamble, decode, size_for_version};
 use event_record::{ScanEvent, activation};
 use event_window::{FoundWindow, Window};
 use float_bits::{bits_of_f64, f64_of_bits};
 use lists::holds;
 use reader::{saturating_add, smaller};
-use refusal::{CountAnswer, Refusal};
+use refusal::Refusal;
 use writer::{store_bytes, store_u32, store_u64, store_u64s};
 
 // A test, and what was tested after it: a chain of these has no branch in its caller.
@@ -30,12 +30,12 @@ fn both(test: bool, others: bool) -> bool
     false
 }
 
-fn code_number(code: Code) -> u64
+fn code_number(code: Option<u32>) -> u64
     ensures { result ≡ code_number code }
 {
     match code {
-        Code::None => 0,
-        Code::Known(c) => c as u64 + 1,
+        None => 0,
+        Some(c) => c as u64 + 1,
     }
 }
 
@@ -52,7 +52,7 @@ fn activation_number(activation: Activation) -> u64
     }
 }
 
-fn same_code(a: Code, b: Code, others: bool) -> bool
+fn same_code(a: Option<u32>, b: Option<u32>, others: bool) -> bool
     ensures { result ≡ (same_code a b && others) }
 {
     both(code_number(a) == code_number(b), others)
@@ -258,7 +258,7 @@ fn write_held(
     energies: &[u64],
     coefficients: &[u64],
     out: &mut [u8],
-) -> CountAnswer
+) -> Result<u64, Refusal>
     requires { Small event.preamble_len event.reactions event.coefficients }
     ensures { LeftListBy (write_if_fits version event preamble.now precursors.now energies.now coefficients.now)
         out.old result out.new }
@@ -301,9 +301,9 @@ fn write_held(
             &coefficients[..m],
             out,
         );
-        return CountAnswer::Count(size);
+        return Ok(size);
     }
-    CountAnswer::Refused(Refusal::NoRoom)
+    Err(Refusal::NoRoom)
 }
 
 // The event over the front of a lent slice, and how many bytes it takes. Its lists are the first elements of their slices, as many
@@ -316,7 +316,7 @@ pub fn write_before_66(
     energies: &[u64],
     coefficients: &[u64],
     out: &mut [u8],
-) -> CountAnswer
+) -> Result<u64, Refusal>
     ensures { LeftListBy (write_before_66 version event preamble.now precursors.now energies.now coefficients.now)
         out.old result out.new }
 {
@@ -331,5 +331,5 @@ pub fn write_before_66(
             out,
         );
     }
-    CountAnswer::Refused(Refusal::NotHeld)
+    Err(Refusal::NotHeld)
 }

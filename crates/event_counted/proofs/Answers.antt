@@ -1,4 +1,5 @@
 -- What finding a counted event answers, by the tests that decide it, and what is read of it.
+use Rattle.std.specs.Prelude.{Ok}
 use mathlib.Core.Path.{◌≡◌, refl}
 use mathlib.Core.Logic.{⊎_elim}
 use Prim.Native.Nat.{ℕ, ◌+◌, ◌-◌, ◌≤◌, ◌<◌}
@@ -8,14 +9,14 @@ use mathlib.Core.List.{List, []}
 use lib.ListN.{length}
 use borrow.Author.Tests.{le-leb, lt-leb}
 use Rattle.refusal.specs.Outcome.{Outcome, ok, refused, ran_out, on_ok, and_then}
+use Rattle.refusal.specs.Number.{outcome_of}
 use Rattle.lists.proofs.Cases.{le_or_lt}
 use Rattle.parser.specs.Parser.{bytes, word_at, remaining}
 use Rattle.event_preamble.specs.Settings.{is_primary}
 use Rattle.event_record.specs.Event.{event_if_fits}
-use Rattle.event_record.specs.Places.{event_in, with_lists, places_of, outcome_of_places}
+use Rattle.event_record.specs.Places.{event_in, with_lists, places_of}
 use Rattle.event_record.specs.declared.Lists.{Lists}
 use Rattle.event_record.specs.declared.Places.{Places}
-use Rattle.event_record.specs.declared.PlacesAnswer.TheVariants.{At}
 use Rattle.event_record.specs.declared.EventAndNext.{EventAndNext}
 use Rattle.event_record.proofs.Holding.{there}
 use Rattle.event_record.proofs.Bodies.{no_preamble, no_body, both_there, again}
@@ -48,7 +49,7 @@ module _ (size : ℕ) (s : List ℕ) (at : ℕ) where
       wrong h = rw (← whole, ← h)
 
       pub found : {lists : Lists} → ok lists ≡ judge_body (at + 136) preamble body
-          → outcome_of_places (At (record { preamble = at; preamble_len = 136; lists = lists; next = at + 136 + size })) ≡ find_counted size at s
+          → outcome_of (Ok (record { preamble = at; preamble_len = 136; lists = lists; next = at + 136 + size })) ≡ find_counted size at s
       unfolding event_in
       found h =
           let len : length preamble ≡ 136 = rw hp (there s at 136 t) in

@@ -5,6 +5,7 @@ use native.Mathlib.Omega.{arith}
 use mathlib.Core.Bool.{not}
 use mathlib.Core.List.{List}
 use lib.Dec.{leb, lit≤}
+use Rattle.refusal.specs.Number.{outcome_of}
 use Rattle.parser.specs.Call.{single}
 use Rattle.lists.specs.Left.{lengths, LeftLists}
 use Rattle.parser.specs.LongerBytes.{OnLongerBytes, PrefixProperty, Names, Completes}
@@ -12,7 +13,7 @@ use Rattle.parser.proofs.Completion.{Bounded, bounded_more}
 use Rattle.parser.specs.Parser.{Parser, bytes, little_endian, remaining}
 use Rattle.parser.proofs.Calls.{NotTruncated, not_truncated_cond, prefix_property, only_part, single_completes}
 use Rattle.refusal.specs.Outcome.{Outcome, ok, refused, and_then}
-use Rattle.event_record.specs.Event.{event_if_fits, outcome_of}
+use Rattle.event_record.specs.Event.{event_if_fits}
 use Rattle.event_record.specs.Places.{event_in, preamble_and_body}
 use Rattle.event_record.specs.declared.Lists.{Lists}
 use Rattle.event_record.specs.declared.EventAndNext.{EventAndNext}

@@ -1,24 +1,11 @@
 -- Answers of the private functions. No public promise cites it.
 use Rattle.std.specs.Prelude.{ℕ, ◌+◌, List}
 use Rattle.refusal.specs.Outcome.{Outcome, ok, on_ok}
-use Rattle.refusal.specs.Number.{outcome_of_refusal}
 use Rattle.parser.specs.Call.{outcome, single}
 use Rattle.event_record.specs.Places.{with_lists, places_of, preamble_and_body}
 use Rattle.event_record.specs.declared.Lists.{Lists}
 use Rattle.event_record.specs.declared.Places.{Places}
 use Rattle.event_counted.specs.Layout.{judge_body}
-use Rattle.event_counted.specs.declared.RecordsAnswer.{RecordsAnswer}
-use Rattle.event_counted.specs.declared.RecordsAnswer.TheVariants.{Sound, Refused}
-use Rattle.event_counted.specs.declared.BodyAnswer.{BodyAnswer}
-use Rattle.event_counted.specs.declared.BodyAnswer.TheVariants as body
-
-abbrev pub outcome_of_records : RecordsAnswer → Outcome (Unit {0})
-outcome_of_records Sound = ok tt
-outcome_of_records (Refused r) = outcome_of_refusal r
-
-abbrev pub outcome_of_body : BodyAnswer → Outcome Lists
-outcome_of_body (body.Holds lists) = ok lists
-outcome_of_body (body.Refused r) = outcome_of_refusal r
 
 -- what `find_counted` answers
 unfoldable pub find_counted : ℕ → ℕ → List ℕ → Outcome Places

@@ -2,63 +2,55 @@
 #![tactic(auto)]
 
 ghost use Rattle.std.specs.Prelude.{◌≡◌, ◌+◌, ◌^◌, ◌<◌, [], ◌∷◌};
+ghost use Rattle.refusal.specs.Number.{outcome_of};
 ghost use Rattle.lists.specs.Left.{LeftLists};
-ghost use Rattle.event_record.specs.Event.{outcome_of};
-ghost use Rattle.event_record.specs.Places.{outcome_of_places};
 ghost use Rattle.event_counted.specs.Layout.{judge_record, judge_records, kept_count, lists_counted, judge_body, read_counted};
-ghost use Rattle.event_counted.specs.Internal.{outcome_of_records, outcome_of_body, find_counted};
+ghost use Rattle.event_counted.specs.Internal.{find_counted};
 
 use event_coefficients::coefficient_count;
 use event_preamble::is_primary;
 use event_reactions::{Source, acceptable};
-use event_record::{EventAnswer, Lists, Places, PlacesAnswer};
+use event_record::{EventAndNext, Lists, Places};
 use event_window::plausible_window;
 use event_writer::write_event;
 use reader::{remaining, u32_at, u64_at};
 use refusal::{Part, Refusal};
 
-// What was found of the reaction records.
-#[derive(Clone, Copy)]
-enum RecordsAnswer {
-    Sound,
-    Refused(Refusal),
-}
-
 // Record i of a body that starts at `start` of the run.
-fn judge_record(start: u64, body: &[u8], i: u64) -> RecordsAnswer
+fn judge_record(start: u64, body: &[u8], i: u64) -> Result<(), Refusal>
     requires { (start < 2 ^ 63 + 2 ^ 32) × (i < 2 ^ 32) }
-    ensures { outcome_of_records result ≡ judge_record start body.now i }
+    ensures { outcome_of result ≡ judge_record start body.now i }
 {
     let off = 4 + i * 56;
     if 8 <= remaining(body, off) {
         let bits = u64_at(body, off);
         if acceptable(bits) {
             if 8 <= remaining(body, off + 16) {
-                return RecordsAnswer::Sound;
+                return Ok(());
             }
-            return RecordsAnswer::Refused(Refusal::BodyTooShort);
+            return Err(Refusal::BodyTooShort);
         }
-        return RecordsAnswer::Refused(Refusal::InvalidPrecursorMz {
+        return Err(Refusal::InvalidPrecursorMz {
             place: start + off,
             bits,
         });
     }
-    RecordsAnswer::Refused(Refusal::BodyTooShort)
+    Err(Refusal::BodyTooShort)
 }
 
 // The first n records. The loop ends at the first that is wrong or passes the body, whatever count is stored.
-fn judge_records(start: u64, body: &[u8], n: u64) -> RecordsAnswer
+fn judge_records(start: u64, body: &[u8], n: u64) -> Result<(), Refusal>
     requires { (start < 2 ^ 63 + 2 ^ 32) × (n < 2 ^ 32) }
-    ensures { outcome_of_records result ≡ judge_records start body.now n }
+    ensures { outcome_of result ≡ judge_records start body.now n }
 {
     let mut i: u64 = 0;
     while i < n {
-        if let RecordsAnswer::Refused(r) = judge_record(start, body, i) {
-            return RecordsAnswer::Refused(r);
+        if let Err(r) = judge_record(start, body, i) {
+            return Err(r);
         }
         i = i + 1;
     }
-    RecordsAnswer::Sound
+    Ok(())
 }
 
 // A primary event's records are neither judged nor kept.
@@ -90,34 +82,21 @@ fn lists_of(bytes: &[u8], body: &[u8], count: u64) -> Lists
     }
 }
 
-// What a body holds that starts at `start` of the run.
-#[derive(Clone, Copy)]
-enum BodyAnswer {
-    Holds(Lists),
-    Refused(Refusal),
-}
-
-fn judge_body(start: u64, bytes: &[u8], body: &[u8]) -> BodyAnswer
+fn judge_body(start: u64, bytes: &[u8], body: &[u8]) -> Result<Lists, Refusal>
     requires { start < 2 ^ 63 + 2 ^ 32 }
-    ensures { outcome_of_body result ≡ judge_body start bytes.now body.now }
+    ensures { outcome_of result ≡ judge_body start bytes.now body.now }
 {
     if 4 <= remaining(body, 0) {
         let count = u32_at(body, 0) as u64;
-        match judge_records(start, body, kept_count(bytes, count)) {
-            RecordsAnswer::Refused(r) => {
-                return BodyAnswer::Refused(r);
-            }
-            RecordsAnswer::Sound => {
-                return BodyAnswer::Holds(lists_of(bytes, body, count));
-            }
-        }
+        let () = judge_records(start, body, kept_count(bytes, count))?;
+return Ok(lists_of(bytes, body, count));
     }
-    BodyAnswer::Refused(Refusal::BodyTooShort)
+    Err(Refusal::BodyTooShort)
 }
 
 // The event at a place of the run. Nothing is written.
-fn find_counted(run: &[u8], at: u64, body_size: u32) -> PlacesAnswer
-    ensures { outcome_of_places result ≡ find_counted body_size at run.now }
+fn find_counted(run: &[u8], at: u64, body_size: u32) -> Result<Places, Refusal>
+    ensures { outcome_of result ≡ find_counted body_size at run.now }
 {
     if 136 <= remaining(run, at) {
         let from = at as usize;
@@ -125,20 +104,16 @@ fn find_counted(run: &[u8], at: u64, body_size: u32) -> PlacesAnswer
         let size = body_size as u64;
         if size <= remaining(run, at + 136) {
             let to = middle + body_size as usize;
-            match judge_body(at + 136, &run[from..middle], &run[middle..to]) {
-                BodyAnswer::Refused(r) => return PlacesAnswer::Refused(r),
-                BodyAnswer::Holds(lists) => {
-                    return PlacesAnswer::At(Places {
+            let lists = judge_body(at + 136, &run[from..middle], &run[middle..to])?;
+return Ok(Places {
                         preamble: at,
                         preamble_len: 136,
                         lists,
                         next: at + 136 + size,
                     });
-                }
-            }
         }
     }
-    PlacesAnswer::Refused(Refusal::Short(Part::Event))
+    Err(Refusal::Short(Part::Event))
 }
 
 pub fn read_counted_v66(
@@ -149,13 +124,11 @@ pub fn read_counted_v66(
     precursors: &mut [u64],
     energies: &mut [u64],
     coefficients: &mut [u64],
-) -> EventAnswer
+) -> Result<EventAndNext, Refusal>
     ensures { LeftLists (λ c. read_counted body_size c at run.now)
         (preamble.old ∷ precursors.old ∷ energies.old ∷ coefficients.old ∷ [])
         (outcome_of result) (preamble.new ∷ precursors.new ∷ energies.new ∷ coefficients.new ∷ []) }
 {
-    match find_counted(run, at, body_size) {
-        PlacesAnswer::Refused(r) => EventAnswer::Refused(r),
-        PlacesAnswer::At(p) => { write_event(run, p, preamble, precursors, energies, coefficients) }
-    }
+    let p = find_counted(run, at, body_size)?;
+write_event(run, p, preamble, precursors, energies, coefficients)
 }

@@ -1,4 +1,5 @@
 -- What finding an event from version 66 on answers, by the tests that decide it, and that it is the event which is read.
+use Rattle.std.specs.Prelude.{Ok}
 use mathlib.Core.Path.{◌≡◌, refl, sym, ◌∙◌}
 use Prim.Native.Nat.{ℕ, ◌+◌, ◌-◌, ◌≤◌, ◌<◌}
 use native.Mathlib.Omega.{arith}
@@ -8,15 +9,15 @@ use lib.Dec.{eqb}
 use lib.ListN.{length}
 use borrow.Author.Tests.{lt-leb}
 use Rattle.refusal.specs.Outcome.{Outcome, ok, ran_out}
+use Rattle.refusal.specs.Number.{outcome_of}
 use Rattle.parser.specs.Parser.{short, parse, bytes, remaining}
 use Rattle.parser.specs.Call.{outcome, single}
 use Rattle.parser.proofs.Answered.{made_part}
 use Rattle.event_preamble.specs.Settings.{is_primary}
 use Rattle.event_record.specs.Event.{Event}
-use Rattle.event_record.specs.Places.{event_in, with_lists, places_of, find_by, outcome_of_places, preamble_and_body}
+use Rattle.event_record.specs.Places.{event_in, with_lists, places_of, find_by, preamble_and_body}
 use Rattle.event_record.specs.declared.Lists.{Lists}
 use Rattle.event_record.specs.declared.Places.{Places}
-use Rattle.event_record.specs.declared.PlacesAnswer.TheVariants.{At}
 use Rattle.event_record.proofs.Holding.{Holds, there}
 use Rattle.event_record.proofs.Bodies.{no_preamble, no_body, both_there, body_holds}
 use Rattle.event_from_66.specs.Layout.{body_size, is_tribrid, lists_from_66, from_66}
@@ -54,7 +55,7 @@ module _ (primary dependent : ℕ) where
       -- the places that are answered, from what the code has in hand
       pub found : {body : List ℕ} {is_t : Bool} {lists : Lists} → body ≡ bytes s (at + 136) size → is_t ≡ (not (eqb primary dependent) && not is_p) → size ≤ remaining s (at + 136)
           → lists ≡ lists_from_66 preamble body is_t
-          → outcome_of_places (At (record { preamble = at; preamble_len = 136; lists = lists; next = at + 136 + size })) ≡ find_by (from_66 primary dependent) at s
+          → outcome_of (Ok (record { preamble = at; preamble_len = 136; lists = lists; next = at + 136 + size })) ≡ find_by (from_66 primary dependent) at s
       unfolding event_in
       found hb ht u e =
           let len : length preamble ≡ 136 = rw hp (there s at 136 t) in

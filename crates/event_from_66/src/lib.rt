@@ -2,14 +2,15 @@
 #![tactic(auto)]
 
 ghost use Rattle.std.specs.Prelude.{◌≡◌, ◌&&◌, not, cond, ◌<◌, eqb};
+ghost use Rattle.refusal.specs.Number.{outcome_of};
 ghost use Rattle.event_reactions.specs.declared.Source.TheVariants.{Every, Sought};
-ghost use Rattle.event_record.specs.Places.{find_by, outcome_of_places};
+ghost use Rattle.event_record.specs.Places.{find_by};
 ghost use Rattle.event_from_66.specs.Layout.{sought, lists_from_66, from_66};
 
 use event_coefficients::{coefficient_count, word_offset};
 use event_preamble::is_primary;
 use event_reactions::Source;
-use event_record::{Lists, Places, PlacesAnswer};
+use event_record::{Lists, Places};
 use event_window::find_window;
 use reader::remaining;
 use refusal::{Part, Refusal};
@@ -62,8 +63,8 @@ fn is_tribrid(primary: bool, body_primary: u32, body_dependent: u32) -> bool
 }
 
 // The event at a place of the run. Nothing is written.
-pub fn find_from_66(run: &[u8], at: u64, body_primary: u32, body_dependent: u32) -> PlacesAnswer
-    ensures { outcome_of_places result ≡ find_by (from_66 body_primary body_dependent) at run.now }
+pub fn find_from_66(run: &[u8], at: u64, body_primary: u32, body_dependent: u32) -> Result<Places, Refusal>
+    ensures { outcome_of result ≡ find_by (from_66 body_primary body_dependent) at run.now }
 {
     if 136 <= remaining(run, at) {
         let from = at as usize;
@@ -74,7 +75,7 @@ pub fn find_from_66(run: &[u8], at: u64, body_primary: u32, body_dependent: u32)
             let to = middle + size as usize;
             let tribrid = is_tribrid(primary, body_primary, body_dependent);
             let lists = lists_of(&run[from..middle], &run[middle..to], tribrid);
-            return PlacesAnswer::At(Places {
+            return Ok(Places {
                 preamble: at,
                 preamble_len: 136,
                 lists,
@@ -82,5 +83,5 @@ pub fn find_from_66(run: &[u8], at: u64, body_primary: u32, body_dependent: u32)
             });
         }
     }
-    PlacesAnswer::Refused(Refusal::Short(Part::Event))
+    Err(Refusal::Short(Part::Event))
 }

@@ -1,12 +1,10 @@
 -- What the bytes of a preamble say (`ScanEventPreamble` of scan_event.rs). A preamble may have any length: a byte that it lacks
 -- gives no code, and counts as 0 where the Rust says so.
-use Rattle.std.specs.Prelude.{ℕ, suc, Bool, true, false, ◌&&◌, not, cond, List, leb, eqb, length}
+use Rattle.std.specs.Prelude.{ℕ, suc, Bool, true, false, ◌&&◌, not, cond, List, leb, eqb, length, None, Option}
 use Rattle.parser.specs.Parser.{word_at}
 use Rattle.codes.specs.Codes.{code_of, activation_of}
 use Rattle.codes.specs.declared.Family.{Family}
 use Rattle.codes.specs.declared.Family.TheVariants.{Analyzer, Polarity, ScanMode, MsPower, ScanType, Ionization}
-use Rattle.codes.specs.declared.Code.{Code}
-use Rattle.codes.specs.declared.Code.TheVariants as code
 use Rattle.codes.specs.declared.Activation.{Activation}
 use Rattle.codes.specs.declared.Activation.TheVariants as activation
 use Rattle.event_preamble.specs.declared.ScanEventPreamble.{ScanEventPreamble}
@@ -16,8 +14,8 @@ abbrev pub byte : List ℕ → ℕ → ℕ
 byte p i = word_at p i 1
 
 -- the code of a family at byte i
-abbrev pub code_at : Family → List ℕ → ℕ → Code
-code_at f p i = cond (leb (suc i) (length p)) (code_of f (byte p i)) code.None
+abbrev pub code_at : Family → List ℕ → ℕ → Option ℕ
+code_at f p i = cond (leb (suc i) (length p)) (code_of f (byte p i)) None
 
 -- a flag is set where its byte is 1
 abbrev pub is_set : List ℕ → ℕ → Bool

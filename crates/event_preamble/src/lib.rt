@@ -7,7 +7,7 @@ ghost use Rattle.event_preamble.specs.Size.{size_for_version};
 ghost use Rattle.event_preamble.specs.Settings.{byte, code_at, is_set, is_dependent, is_dia, is_wideband, named as is_named, activation_at, settings, is_primary};
 ghost use Rattle.codes.specs.declared.Family.TheVariants.{Analyzer, Polarity, ScanMode, MsPower, ScanType, Ionization};
 
-use codes::{Activation, Code, Family};
+use codes::{Activation, Family};
 use reader::u8_at;
 
 // How many bytes it takes.
@@ -27,26 +27,26 @@ pub fn size_for_version(version: u32) -> u64
 
 #[derive(Clone, Copy)]
 pub struct ScanEventPreamble {
-    pub polarity: Code,
-    pub scan_mode: Code,
-    pub ms_power: Code,
-    pub scan_type: Code,
+    pub polarity: Option<u32>,
+    pub scan_mode: Option<u32>,
+    pub ms_power: Option<u32>,
+    pub scan_type: Option<u32>,
     pub dependent: bool,
     pub dia: bool,
-    pub ionization: Code,
+    pub ionization: Option<u32>,
     pub activation: Activation,
     pub activation_byte: u8,
     pub wideband: bool,
-    pub analyzer: Code,
+    pub analyzer: Option<u32>,
 }
 
-fn code_at(family: Family, bytes: &[u8], i: u64) -> Code
+fn code_at(family: Family, bytes: &[u8], i: u64) -> Option<u32>
     ensures { result ≡ code_at family bytes.now i }
 {
     if i < bytes.len() as u64 {
         codes::decode(family, u8_at(bytes, i) as u32)
     } else {
-        Code::None
+        None
     }
 }
 
@@ -57,25 +57,25 @@ fn is_set(bytes: &[u8], i: u64) -> bool
     u8_at(bytes, i) == 1
 }
 
-pub fn polarity(bytes: &[u8]) -> Code
+pub fn polarity(bytes: &[u8]) -> Option<u32>
     ensures { result ≡ code_at Polarity bytes.now 4 }
 {
     code_at(Family::Polarity, bytes, 4)
 }
 
-pub fn scan_mode(bytes: &[u8]) -> Code
+pub fn scan_mode(bytes: &[u8]) -> Option<u32>
     ensures { result ≡ code_at ScanMode bytes.now 5 }
 {
     code_at(Family::ScanMode, bytes, 5)
 }
 
-pub fn ms_power(bytes: &[u8]) -> Code
+pub fn ms_power(bytes: &[u8]) -> Option<u32>
     ensures { result ≡ code_at MsPower bytes.now 6 }
 {
     code_at(Family::MsPower, bytes, 6)
 }
 
-pub fn scan_type(bytes: &[u8]) -> Code
+pub fn scan_type(bytes: &[u8]) -> Option<u32>
     ensures { result ≡ code_at ScanType bytes.now 7 }
 {
     code_at(Family::ScanType, bytes, 7)
@@ -101,7 +101,7 @@ pub fn is_primary(bytes: &[u8]) -> bool
     u8_at(bytes, 6) <= 1 && !is_dependent(bytes)
 }
 
-pub fn ionization(bytes: &[u8]) -> Code
+pub fn ionization(bytes: &[u8]) -> Option<u32>
     ensures { result ≡ code_at Ionization bytes.now 11 }
 {
     code_at(Family::Ionization, bytes, 11)
@@ -145,7 +145,7 @@ pub fn is_wideband(bytes: &[u8]) -> bool
     is_set(bytes, 32)
 }
 
-pub fn analyzer(bytes: &[u8]) -> Code
+pub fn analyzer(bytes: &[u8]) -> Option<u32>
     ensures { result ≡ code_at Analyzer bytes.now 40 }
 {
     code_at(Family::Analyzer, bytes, 40)

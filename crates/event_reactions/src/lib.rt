@@ -10,7 +10,7 @@ ghost use Rattle.event_reactions.specs.Reactions.{acceptable, kept, record_count
 use float_bits::{f64_of_bits, is_finite64};
 use lists::holds;
 use reader::{copy_u64s, remaining, saturating_add, smaller, u32_at, u64_at};
-use refusal::{CountAnswer, Refusal};
+use refusal::Refusal;
 
 // Where the reactions of an event stand in its body.
 #[derive(Clone, Copy)]
@@ -138,8 +138,8 @@ fn write_sought(body: &[u8], tribrid: bool, precursors: &mut [u64], energies: &m
     }
     let count = write_kept(body, 8, record_count(body, 4, 8), precursors, energies);
     if count == 0 && has_uncounted(body) {
-        copy_u64s(body, 4, 32, 1, precursors);
-        copy_u64s(body, 20, 32, 1, energies);
+        let _ = copy_u64s(body, 4, 32, 1, precursors);
+        let _ = copy_u64s(body, 20, 32, 1, energies);
     }
 }
 
@@ -169,8 +169,8 @@ fn write_source(body: &[u8], source: Source, precursors: &mut [u64], energies: &
             stride,
             count,
         } => {
-            copy_u64s(body, from, stride, count, precursors);
-            copy_u64s(body, saturating_add(from, 16), stride, count, energies);
+            let _ = copy_u64s(body, from, stride, count, precursors);
+            let _ = copy_u64s(body, saturating_add(from, 16), stride, count, energies);
         }
         Source::Sought { tribrid } => write_sought(body, tribrid, precursors, energies),
     }
@@ -182,7 +182,7 @@ pub fn write_reactions(
     source: Source,
     precursors: &mut [u64],
     energies: &mut [u64],
-) -> CountAnswer
+) -> Result<u64, Refusal>
     ensures { LeftPairs (λ m n. pairs_if_fit m n (in_source body.now source))
         precursors.old energies.old result precursors.new energies.new }
 {
@@ -193,7 +193,7 @@ pub fn write_reactions(
         holds(count, energies.len() as u64, true),
     ) {
         write_source(body, source, precursors, energies);
-        return CountAnswer::Count(count);
+        return Ok(count);
     }
-    CountAnswer::Refused(Refusal::NoRoom)
+    Err(Refusal::NoRoom)
 }

@@ -1,5 +1,4 @@
 pub mod Precursors
-pub mod OneAnswer
 pub mod LongerBytes
 pub mod Holding
 pub mod Bodies

@@ -1,7 +1,6 @@
 -- What an event of any version holds, and what is written of it.
 use Rattle.std.specs.Prelude.{ℕ, List, [], ◌∷◌, length}
 use Rattle.refusal.specs.Outcome.{Outcome, ok}
-use Rattle.refusal.specs.Number.{outcome_of_refusal}
 use Rattle.lists.specs.Left.{firsts, seconds, lists_if_fit}
 use Rattle.event_window.specs.declared.FoundWindow.{FoundWindow}
 use Rattle.event_reactions.specs.Reactions.{Reaction}
@@ -9,8 +8,6 @@ use Rattle.event_preamble.specs.Settings.{settings}
 use Rattle.event_record.specs.Activation.{event_activation}
 use Rattle.event_record.specs.declared.ScanEvent.{ScanEvent}
 use Rattle.event_record.specs.declared.EventAndNext.{EventAndNext}
-use Rattle.event_record.specs.declared.EventAnswer.{EventAnswer}
-use Rattle.event_record.specs.declared.EventAnswer.TheVariants as answer
 
 -- an event as it was read
 pub record Event : Type 0 where
@@ -44,6 +41,3 @@ event_lists e = e.preamble ∷ firsts e.reactions ∷ seconds e.reactions ∷ e.
 unfoldable pub event_if_fits : List ℕ → Event → ℕ → Outcome (EventAndNext × List (List ℕ))
 event_if_fits capacities e next = lists_if_fit capacities (answer_of e next) (event_lists e)
 
-abbrev pub outcome_of : EventAnswer → Outcome EventAndNext
-outcome_of (answer.Event e) = ok e
-outcome_of (answer.Refused r) = outcome_of_refusal r

@@ -1,7 +1,6 @@
 -- An event by the places of its preamble, its body and its lists, for functions that find an event and write it later.
 use Rattle.std.specs.Prelude.{ℕ, ◌+◌, ◌*◌, ◌-◌, List, length}
 use Rattle.refusal.specs.Outcome.{Outcome, ok}
-use Rattle.refusal.specs.Number.{outcome_of_refusal}
 use Rattle.lists.specs.Written.{each}
 use Rattle.parser.specs.Parser.{Parser, done, raw, bytes, word_at, ◌>>=◌}
 use Rattle.parser.specs.Call.{outcome, single}
@@ -9,8 +8,6 @@ use Rattle.event_reactions.specs.Reactions.{in_source}
 use Rattle.event_record.specs.Event.{Event}
 use Rattle.event_record.specs.declared.Lists.{Lists}
 use Rattle.event_record.specs.declared.Places.{Places}
-use Rattle.event_record.specs.declared.PlacesAnswer.{PlacesAnswer}
-use Rattle.event_record.specs.declared.PlacesAnswer.TheVariants as place
 
 -- the event of a preamble, a body and the places of its lists in the body
 unfoldable pub event_in : List ℕ → List ℕ → Lists → Event
@@ -38,10 +35,6 @@ places_of at v next = record { preamble = at; preamble_len = length v.0.preamble
 -- what finding it answers, by its layout
 unfoldable pub find_by : Parser (Event × Lists) → ℕ → List ℕ → Outcome Places
 find_by layout at run = outcome (single 3 at layout (λ v next. ok (places_of at v next))) run
-
-abbrev pub outcome_of_places : PlacesAnswer → Outcome Places
-outcome_of_places (place.At p) = ok p
-outcome_of_places (place.Refused r) = outcome_of_refusal r
 
 -- a preamble of 136 bytes, and a body whose size goes by it
 unfoldable pub preamble_and_body : (List ℕ → ℕ) → Parser (List ℕ × List ℕ)

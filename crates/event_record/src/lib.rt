@@ -11,7 +11,6 @@ use event_reactions::Source;
 use event_window::{FoundWindow, Window};
 use float_bits::f64_of_bits;
 use reader::u8_at;
-use refusal::Refusal;
 
 #[derive(Clone, Copy)]
 pub struct ScanEvent {
@@ -34,12 +33,6 @@ pub struct EventAndNext {
     pub next: u64,
 }
 
-#[derive(Clone, Copy)]
-pub enum EventAnswer {
-    Event(EventAndNext),
-    Refused(Refusal),
-}
-
 // Where the lists of an event stand in its body, and its window.
 #[derive(Clone, Copy)]
 pub struct Lists {
@@ -56,12 +49,6 @@ pub struct Places {
     pub preamble_len: u64,
     pub lists: Lists,
     pub next: u64,
-}
-
-#[derive(Clone, Copy)]
-pub enum PlacesAnswer {
-    At(Places),
-    Refused(Refusal),
 }
 
 fn has_precursor(bits: u64) -> bool

@@ -2,14 +2,15 @@
 #![tactic(auto)]
 
 ghost use Rattle.std.specs.Prelude.{◌≡◌, true, [], ◌∷◌, min, length};
+ghost use Rattle.refusal.specs.Number.{outcome_of};
 ghost use Rattle.lists.specs.Left.{fits, lengths, over_all, LeftLists};
 ghost use Rattle.event_reactions.specs.Reactions.{in_source};
-ghost use Rattle.event_record.specs.Event.{event_lists, event_if_fits, outcome_of};
+ghost use Rattle.event_record.specs.Event.{event_lists, event_if_fits};
 ghost use Rattle.event_record.specs.Places.{event_in, event_at};
 
 use event_preamble::decode;
 use event_reactions::{count_reactions, write_reactions};
-use event_record::{EventAndNext, EventAnswer, Lists, Places, ScanEvent, activation};
+use event_record::{EventAndNext, Lists, Places, ScanEvent, activation};
 use lists::holds;
 use reader::{copy_bytes, copy_u64s, saturating_add, saturating_sub, smaller};
 use refusal::Refusal;
@@ -30,9 +31,9 @@ fn write_lists(
         ≡ over_all (event_lists (event_in bytes.now body.now j)) (preamble.old ∷ precursors.old ∷ energies.old ∷ coefficients.old ∷ []) }
 {
     let reactions = j.reactions;
-    copy_bytes(bytes, 0, bytes.len() as u64, preamble);
-    write_reactions(body, reactions, precursors, energies);
-    copy_u64s(body, j.coefficients_at, 8, j.coefficients, coefficients);
+    let _ = copy_bytes(bytes, 0, bytes.len() as u64, preamble);
+    let _ = write_reactions(body, reactions, precursors, energies);
+    let _ = copy_u64s(body, j.coefficients_at, 8, j.coefficients, coefficients);
 }
 
 // The event of a preamble and a body, where the slices hold it.
@@ -45,7 +46,7 @@ fn write_if_fits(
     precursors: &mut [u64],
     energies: &mut [u64],
     coefficients: &mut [u64],
-) -> EventAnswer
+) -> Result<EventAndNext, Refusal>
     ensures { LeftLists (λ c. event_if_fits c (event_in bytes.now body.now j) next)
         (preamble.old ∷ precursors.old ∷ energies.old ∷ coefficients.old ∷ [])
         (outcome_of result) (preamble.new ∷ precursors.new ∷ energies.new ∷ coefficients.new ∷ []) }
@@ -80,9 +81,9 @@ fn write_if_fits(
             preamble: decode(bytes),
             activation: activation(bytes, &precursors[0..end]),
         };
-        return EventAnswer::Event(EventAndNext { event, next });
+        return Ok(EventAndNext { event, next });
     }
-    EventAnswer::Refused(Refusal::NoRoom)
+    Err(Refusal::NoRoom)
 }
 
 // A place of the run, or its end where the place is after it.
@@ -101,7 +102,7 @@ pub fn write_event(
     precursors: &mut [u64],
     energies: &mut [u64],
     coefficients: &mut [u64],
-) -> EventAnswer
+) -> Result<EventAndNext, Refusal>
     ensures { LeftLists (λ c. event_if_fits c (event_at run.now p) p.next)
         (preamble.old ∷ precursors.old ∷ energies.old ∷ coefficients.old ∷ [])
         (outcome_of result) (preamble.new ∷ precursors.new ∷ energies.new ∷ coefficients.new ∷ []) }

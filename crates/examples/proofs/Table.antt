@@ -1,4 +1,5 @@
 -- The table of document 01's worked examples: what the definitions that contracts cite give at these values.
+use Rattle.std.specs.Prelude.{Some, None}
 use mathlib.Core.Path.{◌≡◌, refl}
 use mathlib.Core.Bool.{true, false}
 use mathlib.Core.List.{List, [], ◌∷◌}
@@ -13,7 +14,6 @@ use Rattle.calibration.specs.Convert.{freq_to_mz}
 use Rattle.float_narrow.specs.Narrow.{narrow}
 use Rattle.noise.specs.Line.{noise_at, noise_of, past, between, fraction}
 use Rattle.noise.specs.Nodes.{NodeBits}
-use Rattle.noise.specs.declared.NoiseAnswer.TheVariants.{None, Values}
 use Rattle.float_ten_thousandths.specs.TenThousandths.{scaled, ten_thousandths}
 use Rattle.float_bits.specs.Numbers.{largest_mass}
 
@@ -59,8 +59,8 @@ pub table : (a b : ℕ) (cs : List ℕ)
     × (freq_to_mz (whole 2) (a ∷ bits 1 ∷ bits 2 ∷ bits 4 ∷ []) ≡ whole 3)
     × (freq_to_mz (whole 2) (a ∷ b ∷ bits 1 ∷ bits 4 ∷ bits 16 ∷ []) ≡ whole 3)
     × (freq_to_mz minus_zero cs ≡ whole 0)
-    × (noise_at (whole 50) nodes ≡ Values (bits32 1) (bits32 3))
-    × (noise_at (whole 150) nodes ≡ Values (to_bits binary32 three_halves) (bits32 4))
+    × (noise_at (whole 50) nodes ≡ Some ((bits32 1), (bits32 3)))
+    × (noise_at (whole 150) nodes ≡ Some ((to_bits binary32 three_halves), (bits32 4)))
     × (noise_at nan nodes ≡ None)
     × (ten_thousandths mass ≡ ok 5000313)
 unfolding of_int round is_nan of_bits to_bits add sub mul div eq lt le size_for_version lowest largest_mass freq_to_mz narrow noise_of past between fraction scaled ten_thousandths

@@ -3,11 +3,11 @@
 
 ghost use Rattle.std.specs.Prelude.{◌≡◌, T};
 ghost use Rattle.std.specs.Float.Ieee.{le};
-ghost use Rattle.refusal.specs.Number.{outcome_of_count};
+ghost use Rattle.refusal.specs.Number.{outcome_of};
 ghost use Rattle.float_ten_thousandths.specs.TenThousandths.{scaled, ten_thousandths};
 ghost use Rattle.float_bits.specs.Numbers.{zero_f, largest_mass};
 
-use refusal::{CountAnswer, Refusal};
+use refusal::Refusal;
 
 // 10000 is 625 * 2^4, and the digits times 625 fit a `u64`. Below 2^-15 the answer is 0.
 fn scaled(x: f64) -> u64
@@ -26,12 +26,12 @@ fn scaled(x: f64) -> u64
 }
 
 // -0 is 0. A NaN fails both tests.
-pub fn ten_thousandths(x: f64) -> CountAnswer
-    ensures { outcome_of_count result ≡ ten_thousandths x }
+pub fn ten_thousandths(x: f64) -> Result<u64, Refusal>
+    ensures { outcome_of result ≡ ten_thousandths x }
 {
     if 0.0 <= x && x <= 50000.0 {
-        CountAnswer::Count(scaled(x))
+        Ok(scaled(x))
     } else {
-        CountAnswer::Refused(Refusal::MassOutOfRange)
+        Err(Refusal::MassOutOfRange)
     }
 }

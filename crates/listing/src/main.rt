@@ -9,15 +9,15 @@ ghost use Rattle.listing_tray.specs.Internal.{walked_place};
 
 use anyhow::Context;
 use listing_tray::{list_header, list_scan};
-use refusal::CountAnswer;
+use refusal::Refusal;
 use std::io;
 use std::io::{Read, Write};
-use tray_header::{TrayHeader, TrayHeaderAnswer, read_tray_header};
+use tray_header::{TrayHeader, read_tray_header};
 
 // What was written of the buffer, which holds every text: the lines of a scan take at most 55,360 bytes. A write that
 // fails is passed over.
-fn print<W: Write>(to: &mut W, out: &[u8; 57344], answer: CountAnswer) {
-    let CountAnswer::Count(n) = answer else {
+fn print<W: Write>(to: &mut W, out: &[u8; 57344], answer: Result<u64, Refusal>) {
+    let Ok(n) = answer else {
         return;
     };
     let whole = &out[..];
@@ -27,7 +27,7 @@ fn print<W: Write>(to: &mut W, out: &[u8; 57344], answer: CountAnswer) {
     }
 }
 
-fn print_header<W: Write>(to: &mut W, header: TrayHeaderAnswer) {
+fn print_header<W: Write>(to: &mut W, header: Result<TrayHeader, Refusal>) {
     let mut out = [0u8; 57344];
     let answer = list_header(header, &mut out);
     print(to, &out, answer);
@@ -64,7 +64,7 @@ fn print_tray<W: Write>(to: &mut W, tray: &[u8])
 {
     let header = read_tray_header(tray);
     print_header(to, header);
-    if let TrayHeaderAnswer::Header(h) = header {
+    if let Ok(h) = header {
         print_scans(to, tray, h);
     }
 }

@@ -13,7 +13,7 @@ ghost use Rattle.listing_lines.specs.Internal.{Appends};
 use float_bits::bits_of_f64;
 use float_ten_thousandths::ten_thousandths;
 use reader::smaller;
-use refusal::{CountAnswer, Refusal};
+use refusal::Refusal;
 use text::write;
 
 // Every `append` function writes from a place on and answers the place after what it wrote, where the next one goes on. Who
@@ -90,7 +90,7 @@ fn append_three(mark: u8, a: u64, b: u64, c: u64, out: &mut [u8]) -> usize
 }
 
 // `T version count`. No line of numbers is longer than 64 bytes.
-pub fn write_tray_line(version: u32, scans: u32, out: &mut [u8]) -> CountAnswer
+pub fn write_tray_line(version: u32, scans: u32, out: &mut [u8]) -> Result<u64, Refusal>
     ensures { LeftList (tray_line version scans) out.old result out.new }
 {
     let mut text = [0u8; 64];
@@ -109,7 +109,7 @@ fn part_of(refusal: Refusal) -> u64
 }
 
 // `X number refusal part`
-pub fn write_refusal_line(number: u32, refusal: Refusal, out: &mut [u8]) -> CountAnswer
+pub fn write_refusal_line(number: u32, refusal: Refusal, out: &mut [u8]) -> Result<u64, Refusal>
     ensures { LeftList (refusal_line number refusal) out.old result out.new }
 {
     let mut text = [0u8; 64];
@@ -128,8 +128,8 @@ fn append_mass(mz: f64, at: usize, out: &mut [u8]) -> usize
     ensures { Appends (mass_text mz) at out.old result out.new }
 {
     match ten_thousandths(mz) {
-        CountAnswer::Count(n) => append_decimal(n, at, out),
-        CountAnswer::Refused(_) => append(b'-', at, out),
+        Ok(n) => append_decimal(n, at, out),
+        Err(_) => append(b'-', at, out),
     }
 }
 
@@ -204,12 +204,12 @@ pub fn write_scan_lines(
     mz: &[f64],
     intensity: &[f64],
     out: &mut [u8],
-) -> CountAnswer
+) -> Result<u64, Refusal>
     ensures { LeftList (scan_lines number coefficients mz.now intensity.now) out.old result out.new }
 {
     if scan_fits(number, coefficients, mz, intensity, out.len()) {
-        CountAnswer::Count(append_scan(number, coefficients, mz, intensity, out) as u64)
+        Ok(append_scan(number, coefficients, mz, intensity, out) as u64)
     } else {
-        CountAnswer::Refused(Refusal::NoRoom)
+        Err(Refusal::NoRoom)
     }
 }

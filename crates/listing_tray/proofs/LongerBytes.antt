@@ -1,5 +1,6 @@
 -- Demand 3 for the texts of the header and of a scan: a text that is not `X k 1 part` is also the text for all longer bytes,
 -- with every element of the lent slice, and `X k 1 part` is written only if there are longer bytes on which the text is another.
+use Rattle.std.specs.Prelude.{Ok, Err, Result}
 use mathlib.Core.Path.{◌≡◌, refl, sym, ap, ◌∙◌}
 use Prim.Native.Nat.{ℕ, ◌+◌, ◌^◌, ◌<◌}
 use native.Mathlib.Omega.{arith}
@@ -8,14 +9,13 @@ use lib.Dec.{lit<}
 use lib.ListN.{length, drop}
 use lib.Seq.{drop-append_seam}
 use Rattle.refusal.specs.Outcome.{Outcome, ok, refused, ran_out, on_ok}
-use Rattle.refusal.specs.Number.{part_number, number, carried, outcome_of_refusal}
+use Rattle.refusal.specs.Number.{part_number, number, carried, outcome_of_refusal, outcome_of}
 use Rattle.refusal.specs.declared.Part.{Part}
 use Rattle.refusal.specs.declared.Part.TheVariants.{Header, Index, Event, Data}
 use Rattle.refusal.specs.declared.Refusal.{Refusal}
 use Rattle.refusal.specs.declared.Refusal.TheVariants.{Short, UnrecognizedScanRecord, InvalidPrecursorMz, BodyTooShort, FlatWord, TooManyScans, NoSuchScan, NoRoom, MassOutOfRange, NotHeld}
-use Rattle.refusal.specs.declared.CountAnswer.{CountAnswer}
 use Rattle.refusal.proofs.Outcomes.{ok_not_refused}
-use Rattle.refusal.proofs.OneAnswer.{count_one}
+use Rattle.refusal.proofs.OneAnswer.{answer_one}
 use Rattle.lists.specs.Left.{LeftList}
 use Rattle.parser.specs.LongerBytes.{Bytes, Held, PrefixProperty, CompletesOn}
 use Rattle.text.specs.Text.{ascii}
@@ -24,13 +24,9 @@ use Rattle.listing_lines.proofs.Fields.{first_field}
 use Rattle.tray_header.specs.Header.{read_tray_header}
 use Rattle.tray_header.specs.Header as header
 use Rattle.tray_header.specs.declared.TrayHeader.{TrayHeader}
-use Rattle.tray_header.specs.declared.TrayHeaderAnswer.{TrayHeaderAnswer}
-use Rattle.tray_header.specs.declared.TrayHeaderAnswer.TheVariants as header_answer
 use Rattle.tray_header.proofs.Found.{Words}
 use Rattle.tray_header.proofs.LongerBytes.{tray_header_prefix, tray_header_completes}
-use Rattle.tray_scan.specs.Scan.{WrittenScan, format_in, scan_at, end_in, place_or_end, outcome_of}
-use Rattle.tray_scan.specs.declared.ScanAnswer.{ScanAnswer}
-use Rattle.tray_scan.specs.declared.ScanAnswer.TheVariants as answer
+use Rattle.tray_scan.specs.Scan.{WrittenScan, format_in, scan_at, end_in, place_or_end}
 use Rattle.tray_scan.proofs.LongerBytes.{AtNear, scan_at_prefix, scan_at_names, scan_at_completes, next_stays}
 use Rattle.listing_tray.specs.Listing.{capacities, scan_text, header_text}
 use Rattle.listing_tray.specs.declared.ListedScan.{ListedScan}
@@ -97,12 +93,12 @@ module _ {A : Type 0} (k : ℕ) (text : Outcome A → List ℕ) (line : (n : ℕ
   text_one (refused n carries) part t h = rw (t.1, t.2) (line_one k t.0 part (rw (t.1, t.2) at (sym (line n carries) ∙ h)))
 
   module _ (f : List ℕ → Outcome A) where
-    text_stays : PrefixProperty f → (s t xs ys zs : List ℕ) (r q : CountAnswer) → LeftList (text (f s)) xs r ys → LeftList (text (f (s ++ t))) xs q zs
+    text_stays : PrefixProperty f → (s t xs ys zs : List ℕ) (r q : Result ℕ Refusal) → LeftList (text (f s)) xs r ys → LeftList (text (f (s ++ t))) xs q zs
         → ((part : ℕ) → text (f s) ≡ refused_line k 1 (part ∷ []) → ⊥) → (q ≡ r) × (zs ≡ ys)
     text_stays prefix s t xs ys zs r q l m never =
         let same : text (f (s ++ t)) ≡ text (f s) = ap text (prefix s t (λ part h. never part (ap text h ∙ line 1 (part ∷ [])))) in
         let n = rw same at m in
-        (count_one q r (n.answered ∙ sym l.answered), n.stands ∙ sym l.stands)
+        (answer_one q r (n.answered ∙ sym l.answered), n.stands ∙ sym l.stands)
 
     text_completes : (part : Part) (s : List ℕ) → CompletesOn (part_number part) f s → OneAnswer (f s) → text (f s) ≡ ran_out_line k part
         → (t : List ℕ) × Held (s ++ t) × (OneAnswer (f (s ++ t)) → text (f (s ++ t)) ≡ ran_out_line k part → ⊥)
@@ -111,37 +107,37 @@ module _ {A : Type 0} (k : ℕ) (text : Outcome A → List ℕ) (line : (n : ℕ
         (w.0, w.1, λ g i. w.2 (text_one (f (s ++ w.0)) part g i))
 
 -- ---- the text of a header that `read_tray_header` answered
-abbrev pub ReadsHeader : List ℕ → TrayHeaderAnswer → Type 0
+abbrev pub ReadsHeader : List ℕ → Result TrayHeader Refusal → Type 0
 ReadsHeader s x = header.outcome_of x ≡ read_tray_header s
 
-header_outcome : (x : TrayHeaderAnswer) (o : Outcome TrayHeader) → header.outcome_of x ≡ o → OneAnswer o
+header_outcome : (x : Result TrayHeader Refusal) (o : Outcome TrayHeader) → header.outcome_of x ≡ o → OneAnswer o
 header_outcome x (ok h) e = tt
-header_outcome (header_answer.Header h) (refused n carries) e = ok_not_refused e
-header_outcome (header_answer.Refused r) (refused n carries) e = (r, (cc), (cc))
+header_outcome (Ok h) (refused n carries) e = ok_not_refused e
+header_outcome (Err r) (refused n carries) e = (r, (cc), (cc))
 
 header_value : (h : TrayHeader) (part : Part) → header_text (ok h) ≡ ran_out_line 0 part → ⊥
 unfolding tray_line
 header_value h part e = let n : ◌≡◌ {A = ℕ} 84 88 = cc in omega arith
 
-pub list_header_stays : (s t xs ys zs : List ℕ) (x y : TrayHeaderAnswer) (r q : CountAnswer) → ReadsHeader s x → ReadsHeader (s ++ t) y
+pub list_header_stays : (s t xs ys zs : List ℕ) (x y : Result TrayHeader Refusal) (r q : Result ℕ Refusal) → ReadsHeader s x → ReadsHeader (s ++ t) y
     → LeftList (header_text (header.outcome_of x)) xs r ys → LeftList (header_text (header.outcome_of y)) xs q zs
     → ((part : ℕ) → header_text (header.outcome_of x) ≡ refused_line 0 1 (part ∷ []) → ⊥) → (q ≡ r) × (zs ≡ ys)
 list_header_stays s t xs ys zs x y r q d e l m never =
     text_stays 0 header_text (λ _ _. refl) header_value read_tray_header tray_header_prefix s t xs ys zs r q (rw (← d) l) (rw (← e) m) (λ part h. never part (ap header_text d ∙ h))
 
-pub list_header_completes : (s : List ℕ) (x : TrayHeaderAnswer) → Bytes s → length s < 2 ^ 62 → ReadsHeader s x → header_text (header.outcome_of x) ≡ ran_out_line 0 Header
-    → (t : List ℕ) × Held (s ++ t) × ((y : TrayHeaderAnswer) → ReadsHeader (s ++ t) y → header_text (header.outcome_of y) ≡ ran_out_line 0 Header → ⊥)
+pub list_header_completes : (s : List ℕ) (x : Result TrayHeader Refusal) → Bytes s → length s < 2 ^ 62 → ReadsHeader s x → header_text (header.outcome_of x) ≡ ran_out_line 0 Header
+    → (t : List ℕ) × Held (s ++ t) × ((y : Result TrayHeader Refusal) → ReadsHeader (s ++ t) y → header_text (header.outcome_of y) ≡ ran_out_line 0 Header → ⊥)
 list_header_completes s x is_bytes few e h =
     let w = text_completes 0 header_text (λ _ _. refl) header_value read_tray_header Header s (tray_header_completes s is_bytes few (lit< tt)) (header_outcome x _ e) (ap header_text (sym e) ∙ h) in
     (w.0, w.1, λ y f i. w.2 (header_outcome y _ f) (ap header_text (sym f) ∙ i))
 
 -- ---- the text of scan k, whose event stands at a place
-scan_outcome : (x : ScanAnswer) (o : Outcome WrittenScan) → outcome_of x ≡ on_ok (λ (v : WrittenScan). v.0) o → OneAnswer o
+scan_outcome : (x : Result Scan Refusal) (o : Outcome WrittenScan) → outcome_of x ≡ on_ok (λ (v : WrittenScan). v.0) o → OneAnswer o
 scan_outcome x (ok v) e = tt
-scan_outcome (answer.Scan v) (refused n carries) e = ok_not_refused e
-scan_outcome (answer.Refused r) (refused n carries) e = (r, (cc), (cc))
+scan_outcome (Ok v) (refused n carries) e = ok_not_refused e
+scan_outcome (Err r) (refused n carries) e = (r, (cc), (cc))
 
-abbrev listed_scan : CountAnswer → ℕ → ListedScan
+abbrev listed_scan : Result ℕ Refusal → ℕ → ListedScan
 listed_scan written next = record { written = written; next = next }
 
 module _ (h : TrayHeader) (k at : ℕ) where
@@ -149,7 +145,7 @@ module _ (h : TrayHeader) (k at : ℕ) where
   scan_text_on s = scan_text (format_in h) k (scan_at capacities h k at s)
 
   -- what `scan_at` answers, and what `list_scan` does
-  abbrev pub Reads : List ℕ → ScanAnswer → Type 0
+  abbrev pub Reads : List ℕ → Result Scan Refusal → Type 0
   Reads s x = outcome_of x ≡ on_ok (λ (v : WrittenScan). v.0) (scan_at capacities h k at s)
 
   abbrev pub Lists : List ℕ → List ℕ → ListedScan → List ℕ → Type 0
@@ -167,9 +163,9 @@ module _ (h : TrayHeader) (k at : ℕ) where
       (ap (λ x. listed_scan x q.next) both.0 ∙ ap (listed_scan r.written) next, both.1)
 
   -- the header's part is named by no text: it is read before
-  pub list_scan_completes : Words h → k < 2 ^ 32 → (part : Part) → (s : List ℕ) (x : ScanAnswer) → Bytes s → length s < 2 ^ 62
+  pub list_scan_completes : Words h → k < 2 ^ 32 → (part : Part) → (s : List ℕ) (x : Result Scan Refusal) → Bytes s → length s < 2 ^ 62
       → AtNear h k at (part_number part) s → Reads s x → scan_text_on s ≡ ran_out_line k part
-      → (t : List ℕ) × Held (s ++ t) × ((y : ScanAnswer) → Reads (s ++ t) y → scan_text_on (s ++ t) ≡ ran_out_line k part → ⊥)
+      → (t : List ℕ) × Held (s ++ t) × ((y : Result Scan Refusal) → Reads (s ++ t) y → scan_text_on (s ++ t) ≡ ran_out_line k part → ⊥)
   list_scan_completes words small part s x is_bytes few near e i =
       let o = text_one k (scan_text (format_in h) k) (λ _ _. refl) scan_value (scan_at capacities h k at s) part (scan_outcome x (scan_at capacities h k at s) e) i in
       let p = scan_at_names h k at capacities s (part_number part) o in

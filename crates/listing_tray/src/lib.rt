@@ -3,33 +3,33 @@
 #![tactic(auto)]
 
 ghost use Rattle.std.specs.Prelude.{◌≡◌};
+ghost use Rattle.refusal.specs.Number.{outcome_of};
 ghost use Rattle.lists.specs.Left.{LeftList};
-ghost use Rattle.tray_header.specs.Header.{outcome_of};
 ghost use Rattle.tray_scan.specs.Scan.{format_in, scan_at, end_in, place_or_end};
 ghost use Rattle.listing_tray.specs.Listing.{capacities, scan_text, header_text};
 ghost use Rattle.listing_tray.specs.Internal.{lines_of};
 
 use listing_lines::{write_refusal_line, write_scan_lines, write_tray_line};
 use listing_pairs::keep_listed;
-use refusal::CountAnswer;
+use refusal::Refusal;
 use scan_format::ScanDataFormat;
-use tray_header::{TrayHeader, TrayHeaderAnswer};
-use tray_scan::{ScanAnswer, format_in, scan_at};
+use tray_header::TrayHeader;
+use tray_scan::{format_in, scan_at};
 
 // How many bytes of a scan's text were written, and the place to read the next event at.
 #[derive(Clone, Copy)]
 pub struct ListedScan {
-    pub written: CountAnswer,
+    pub written: Result<u64, Refusal>,
     pub next: u64,
 }
 
 // The line of a header that was read, or of its refusal.
-pub fn list_header(header: TrayHeaderAnswer, out: &mut [u8]) -> CountAnswer
+pub fn list_header(header: Result<TrayHeader, Refusal>, out: &mut [u8]) -> Result<u64, Refusal>
     ensures { LeftList (header_text (outcome_of header)) out.old result out.new }
 {
     match header {
-        TrayHeaderAnswer::Refused(r) => write_refusal_line(0, r, out),
-        TrayHeaderAnswer::Header(h) => write_tray_line(h.version, h.scans, out),
+        Err(r) => write_refusal_line(0, r, out),
+        Ok(h) => write_tray_line(h.version, h.scans, out),
     }
 }
 
@@ -41,7 +41,7 @@ fn write_listed(
     mz: &mut [f64],
     intensity: &mut [f64],
     out: &mut [u8],
-) -> CountAnswer
+) -> Result<u64, Refusal>
     ensures { LeftList (lines_of format k coefficients mz.old intensity.old) out.old result out.new }
 {
     let n = keep_listed(format, mz, intensity);
@@ -74,11 +74,11 @@ pub fn list_scan(run: &[u8], at: u64, h: TrayHeader, k: u32, out: &mut [u8]) -> 
     let next = read.next;
     let answer = read.scan;
     match answer {
-        ScanAnswer::Refused(r) => ListedScan {
+        Err(r) => ListedScan {
             written: write_refusal_line(k, r, out),
             next,
         },
-        ScanAnswer::Scan(scan) => {
+        Ok(scan) => {
             let n = scan.pairs as usize;
             let event = scan.event;
             ListedScan {

@@ -1,4 +1,5 @@
 -- What a call leaves, by its outcome, and the room test.
+use Rattle.std.specs.Prelude.{Ok, Err, Result}
 use mathlib.Core.Path.{◌≡◌, refl, sym, ap, ◌∙◌}
 use Prim.Native.Nat.{ℕ, ◌≤◌, ◌<◌}
 use native.Mathlib.Omega.{arith}
@@ -9,10 +10,10 @@ use lib.ListN.{length, length-map}
 use borrow.Author.Tests.{leb-true, le-leb, lt-leb}
 use Rattle.refusal.specs.Outcome.{Outcome, ok, refused}
 use Rattle.refusal.proofs.Outcomes.{refused_of, ok_not_refused, refused_not_ok}
-use Rattle.refusal.proofs.OneAnswer.{count_one}
-use Rattle.refusal.specs.declared.CountAnswer.{CountAnswer}
-use Rattle.refusal.specs.declared.CountAnswer.TheVariants.{Count, Refused}
+use Rattle.refusal.proofs.OneAnswer.{answer_one}
 use Rattle.refusal.specs.declared.Refusal.TheVariants.{NoRoom}
+use Rattle.refusal.specs.Number.{outcome_of}
+use Rattle.refusal.specs.declared.Refusal.{Refusal}
 use Rattle.lists.specs.Written.{over, fitting}
 use Rattle.lists.specs.Left.{after, Left, fits, LeftList, over_all, lengths, lists_if_fit, LeftLists, firsts, seconds, columns, pairs_if_fit, LeftPairs, if_fits, lists_and_pairs_if_fit, LeftListsAndPairs}
 use Rattle.lists.proofs.Cases.{false_not_true, and_true, and_false}
@@ -59,8 +60,8 @@ pub left_one : {R A B L : Type 0} (outcome_of : R → Outcome B) → ((r q : R) 
     → {r q : R} {ys zs : L} → Left answer write o xs (outcome_of r) ys → Left answer write o xs (outcome_of q) zs → (r ≡ q) × (ys ≡ zs)
 left_one outcome_of one answer write o xs {r} {q} l m = (one r q (l.answered ∙ sym m.answered), l.stands ∙ sym m.stands)
 
-pub list_one : {A : Type 0} {vs xs : List A} {r q : CountAnswer} {ys zs : List A} → LeftList vs xs r ys → LeftList vs xs q zs → (r ≡ q) × (ys ≡ zs)
-list_one {A} {vs} {xs} {r} {q} l m = (count_one r q (l.answered ∙ sym m.answered), l.stands ∙ sym m.stands)
+pub list_one : {A : Type 0} {vs xs : List A} {r q : Result ℕ Refusal} {ys zs : List A} → LeftList vs xs r ys → LeftList vs xs q zs → (r ≡ q) × (ys ≡ zs)
+list_one {A} {vs} {xs} {r} {q} l m = (answer_one r q (l.answered ∙ sym m.answered), l.stands ∙ sym m.stands)
 
 -- ---- the room test: each count is within its slice
 abbrev pub Within : List ℕ → List ℕ → Type 0
@@ -77,11 +78,11 @@ fits_true (n ∷ ns) (c ∷ cs) h =
 
 -- ---- a list in one slice
 module _ {A : Type 0} (vs xs : List A) where
-  pub list_no_room : length xs < length vs → LeftList vs xs (Refused NoRoom) xs
+  pub list_no_room : length xs < length vs → LeftList vs xs (Err NoRoom) xs
   unfolding fitting
   list_no_room h = let e = lt-leb (length vs) (length xs) h in record { answered = rw e; stands = rw e }
 
-  pub list_written : {n : ℕ} {ys : List A} → length vs ≡ n → length vs ≤ length xs → ys ≡ over vs xs → LeftList vs xs (Count n) ys
+  pub list_written : {n : ℕ} {ys : List A} → length vs ≡ n → length vs ≤ length xs → ys ≡ over vs xs → LeftList vs xs (Ok n) ys
   list_written e h w = record { answered = rw (le-leb (length vs) (length xs) h, e); stands = w ∙ sym (fitting_all vs xs h) }
 
 -- ---- several lists, each in a slice of its own
@@ -104,12 +105,12 @@ module _ {A B : Type 0} where
     abbrev room_for : Bool
     room_for = fits (n ∷ n ∷ []) (length xs ∷ length ys ∷ [])
 
-    pub pairs_no_room : room_for ≡ false → LeftPairs (λ a b. pairs_if_fit a b ps) xs ys (Refused NoRoom) xs ys
+    pub pairs_no_room : room_for ≡ false → LeftPairs (λ a b. pairs_if_fit a b ps) xs ys (Err NoRoom) xs ys
     unfolding pairs_if_fit
     pairs_no_room h = left_refused (rw (count, h))
 
     pub pairs_written : room_for ≡ true → {xs' : List A} {ys' : List B} → xs' ≡ fitting (firsts ps) xs → ys' ≡ fitting (seconds ps) ys
-        → LeftPairs (λ a b. pairs_if_fit a b ps) xs ys (Count n) xs' ys'
+        → LeftPairs (λ a b. pairs_if_fit a b ps) xs ys (Ok n) xs' ys'
     unfolding pairs_if_fit
     pairs_written h e f =
         let w = fits_true (n ∷ n ∷ []) (length xs ∷ length ys ∷ []) h in

@@ -1,8 +1,8 @@
 -- What a call leaves that writes into lent slices: its answer, and the slices. A slice's capacity is its length.
-use Rattle.std.specs.Prelude.{◌≡◌, ℕ, Bool, true, false, ◌&&◌, cond, List, [], ◌∷◌, ◌++◌, map, leb, length}
+use Rattle.std.specs.Prelude.{◌≡◌, ℕ, Bool, true, false, ◌&&◌, cond, List, [], ◌∷◌, ◌++◌, map, leb, length, Result}
 use Rattle.refusal.specs.Outcome.{Outcome, ok, refused, on_ok}
-use Rattle.refusal.specs.Number.{outcome_of_count}
-use Rattle.refusal.specs.declared.CountAnswer.{CountAnswer}
+use Rattle.refusal.specs.Number.{outcome_of}
+use Rattle.refusal.specs.declared.Refusal.{Refusal}
 use Rattle.lists.specs.Written.{over, fitting}
 
 -- what is lent, after a call: its outcome's value is written, and a refused call leaves it as it was
@@ -27,13 +27,13 @@ abbrev pub if_fits : {A : Type 0} → Bool → A → Outcome A
 if_fits room a = cond room (ok a) (refused 8 [])
 
 -- ---- a list, in one slice: a call that writes vs over the front of xs, if it holds them, and answers how many it wrote
-pub record LeftList {A : Type 0} (vs xs : List A) (r : CountAnswer) (ys : List A) : Type 0 where
-  pub answered : outcome_of_count r ≡ if_fits (leb (length vs) (length xs)) (length vs)
+pub record LeftList {A : Type 0} (vs xs : List A) (r : Result ℕ Refusal) (ys : List A) : Type 0 where
+  pub answered : outcome_of r ≡ if_fits (leb (length vs) (length xs)) (length vs)
   pub stands : ys ≡ fitting vs xs
 
 -- ---- a list, in one slice, by a call that goes by the slice's capacity and may be refused for other reasons than room
-abbrev pub LeftListBy : {A : Type 0} → (ℕ → Outcome (List A)) → List A → CountAnswer → List A → Type 0
-LeftListBy call xs r ys = Left length over (call (length xs)) xs (outcome_of_count r) ys
+abbrev pub LeftListBy : {A : Type 0} → (ℕ → Outcome (List A)) → List A → Result ℕ Refusal → List A → Type 0
+LeftListBy call xs r ys = Left length over (call (length xs)) xs (outcome_of r) ys
 
 -- ---- several lists, each in a slice of its own
 module _ {E : Type 0} where
@@ -70,8 +70,8 @@ module _ {A B : Type 0} where
   pairs_if_fit m n ps = if_fits (fits (length ps ∷ length ps ∷ []) (m ∷ n ∷ [])) ps
 
   -- a call of two lent slices that answers how many pairs it wrote. The call goes by the capacities
-  abbrev pub LeftPairs : (ℕ → ℕ → Outcome (List (A × B))) → List A → List B → CountAnswer → List A → List B → Type 0
-  LeftPairs call xs ys r xs' ys' = Left length columns (call (length xs) (length ys)) (xs, ys) (outcome_of_count r) (xs', ys')
+  abbrev pub LeftPairs : (ℕ → ℕ → Outcome (List (A × B))) → List A → List B → Result ℕ Refusal → List A → List B → Type 0
+  LeftPairs call xs ys r xs' ys' = Left length columns (call (length xs) (length ys)) (xs, ys) (outcome_of r) (xs', ys')
 
 -- ---- several lists, each in a slice of its own, and a list of pairs, in two slices
 module _ {E A B : Type 0} where

@@ -1,4 +1,5 @@
 -- L2: an m/z that is NaN has no noise, and every other m/z gets what it got.
+use Rattle.std.specs.Prelude.{None}
 use mathlib.Core.Path.{◌≡◌, sym, ap}
 use mathlib.Core.Bool.{true, false}
 use mathlib.Core.List.{List}
@@ -10,7 +11,6 @@ use Rattle.float_narrow.specs.Narrow.{narrow}
 use Rattle.noise.specs.Nodes.{NodeBits}
 use Rattle.noise.specs.Line.{noise_of, noise_at}
 use Rattle.noise.specs.Labels.{label_of}
-use Rattle.noise.specs.declared.NoiseAnswer.TheVariants.{None}
 
 -- ---- the look-up. The right side is document 01's, which is the Rust's
 pub number_as_before : (mz : Float) (nodes : List NodeBits) → is_nan mz ≡ false → noise_at mz nodes ≡ noise_of (narrow mz) nodes

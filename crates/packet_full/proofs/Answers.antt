@@ -1,4 +1,5 @@
 -- What reading a whole packet answers, by what its stages found.
+use Rattle.std.specs.Prelude.{Option}
 use mathlib.Core.Path.{◌≡◌, refl, ap, sym, subst, ◌∙◌}
 use Prim.Native.Nat.{ℕ, ◌+◌}
 use mathlib.Core.List.{List}
@@ -9,8 +10,8 @@ use Rattle.parser.specs.Call.{outcome}
 use Rattle.packet_header.specs.declared.PacketHeader.{PacketHeader}
 use Rattle.packet_profile.specs.Profile.{points, profile_record}
 use Rattle.packet_profile.proofs.Answers.{profile_chunks}
+use Rattle.packet_profile.specs.declared.Profile.{Profile}
 use Rattle.packet_record.specs.Packet.{OptionalProfile, absent, present, Contents, contents_at, profile_place, packet_if_fits}
-use Rattle.packet_record.specs.declared.PacketProfile.{PacketProfile}
 use Rattle.packet_record.specs.declared.PacketPlaces.{PacketPlaces}
 use Rattle.packet_places.specs.Packet.{optional_profile}
 use Rattle.packet_places.specs.Places.{find_places}
@@ -20,7 +21,7 @@ use Rattle.packet_full.specs.Full.{chunk_lists, chunks_in, read_packet}
 use Rattle.packet_full.specs.Internal.{chunk_list, found_chunks, ProfileThere}
 
 -- a profile's chunks, by its place
-record Chunked (v : PacketProfile) (p : OptionalProfile) (s : List ℕ) : Type 0 where
+record Chunked (v : Option Profile) (p : OptionalProfile) (s : List ℕ) : Type 0 where
   there : ProfileThere v s
   list : found_chunks v s ≡ chunks_in p
 

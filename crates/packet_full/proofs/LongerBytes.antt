@@ -3,11 +3,12 @@ use mathlib.Core.Path.{◌≡◌}
 use Prim.Native.Nat.{ℕ, ◌^◌, ◌<◌}
 use mathlib.Core.List.{List}
 use Rattle.refusal.specs.Outcome.{Outcome}
+use Rattle.refusal.specs.Number.{outcome_of}
 use Rattle.lists.specs.Left.{lengths, LeftLists}
 use Rattle.parser.specs.Call.{single}
 use Rattle.parser.specs.LongerBytes.{OnLongerBytes, PrefixProperty, Names, Completes}
 use Rattle.parser.proofs.Calls.{NotTruncated, prefix_property, only_part, single_completes}
-use Rattle.packet_record.specs.Packet.{Packet, packet_if_fits, outcome_of, with_nodes}
+use Rattle.packet_record.specs.Packet.{Packet, packet_if_fits, with_nodes}
 use Rattle.packet_record.specs.declared.ScanDataPacket.{ScanDataPacket}
 use Rattle.packet_record.proofs.LongerBytes.{fits_not_truncated, lists_longer}
 use Rattle.packet_places.specs.Packet.{packet}

@@ -1,4 +1,5 @@
 -- What is written of a whole packet: its lists by a call of their own, and then its chunks.
+use Rattle.std.specs.Prelude.{Some, None, Option}
 use mathlib.Core.Path.{◌≡◌, refl, ap, sym, ◌∙◌}
 use Prim.Native.Nat.{ℕ}
 use native.Mathlib.Omega.{arith}
@@ -13,9 +14,8 @@ use Rattle.lists.proofs.Left.{left_refused, left_written, wrote, stayed, fits_tr
 use Rattle.parser.specs.Walk.{sum}
 use Rattle.parser.proofs.Walk.{length-parsed}
 use Rattle.packet_profile.specs.Profile.{Chunk, points, chunk}
+use Rattle.packet_profile.specs.declared.Profile.{Profile}
 use Rattle.packet_record.specs.Packet.{Contents, record_of, lists_of, packet_if_fits}
-use Rattle.packet_record.specs.declared.PacketProfile.{PacketProfile}
-use Rattle.packet_record.specs.declared.PacketProfile.TheVariants.{Absent, Present}
 use Rattle.packet_record.specs.declared.PacketPlaces.{PacketPlaces}
 use Rattle.packet_record.specs.declared.ScanDataPacket.{ScanDataPacket}
 use Rattle.packet_full.specs.Full.{chunk_lists}
@@ -23,15 +23,15 @@ use Rattle.packet_full.specs.Internal.{found_chunks, ProfileThere, HasChunks, ch
 use Rattle.packet_full.proofs.Writing.{signals_size}
 
 -- chunks that are there are as many as the profile says
-chunk_counts : (p : PacketProfile) (s : List ℕ) → ProfileThere p s → (length (found_chunks p s) ≡ chunk_count p) × (sum points (found_chunks p s) ≡ point_count p)
-chunk_counts Absent s t = (refl, refl)
-chunk_counts (Present p) s t = (length-parsed (chunk p.fudged) p.peak_count s p.chunks_at t.there, t.values)
+chunk_counts : (p : Option Profile) (s : List ℕ) → ProfileThere p s → (length (found_chunks p s) ≡ chunk_count p) × (sum points (found_chunks p s) ≡ point_count p)
+chunk_counts None s t = (refl, refl)
+chunk_counts (Some p) s t = (length-parsed (chunk p.fudged) p.peak_count s p.chunks_at t.there, t.values)
 
 abbrev pub chunk_room : List Chunk → List ℕ → List ℕ → List ℕ → List ℕ → Bool
 chunk_room cs b n f w = fits (lengths (chunk_lists cs)) (lengths (b ∷ n ∷ f ∷ w ∷ []))
 
 -- so the test of their slices goes by the profile
-pub tested : (p : PacketProfile) (s b c f v : List ℕ) → ProfileThere p s → {room : Bool} → room ≡ fits (chunk_sizes p) (lengths (b ∷ c ∷ f ∷ v ∷ [])) → room ≡ chunk_room (found_chunks p s) b c f v
+pub tested : (p : Option Profile) (s b c f v : List ℕ) → ProfileThere p s → {room : Bool} → room ≡ fits (chunk_sizes p) (lengths (b ∷ c ∷ f ∷ v ∷ [])) → room ≡ chunk_room (found_chunks p s) b c f v
 tested p s b c f v t e =
     let cs = found_chunks p s in
     let size = (chunk_counts p s t).0 in
@@ -41,18 +41,18 @@ tested p s b c f v t e =
     let signal = signals_size cs ∙ (chunk_counts p s t).1 in
     e ∙ rw (bins, counts, fudges, signal)
 
-pub has_chunks : (p : PacketProfile) (s b c f v : List ℕ) → ProfileThere p s → chunk_room (found_chunks p s) b c f v ≡ true → HasChunks p s b c f v
-has_chunks Absent s b c f v t h = tt
-has_chunks (Present p) s b c f v t h =
-    let cs = found_chunks (Present p) s in
+pub has_chunks : (p : Option Profile) (s b c f v : List ℕ) → ProfileThere p s → chunk_room (found_chunks p s) b c f v ≡ true → HasChunks p s b c f v
+has_chunks None s b c f v t h = tt
+has_chunks (Some p) s b c f v t h =
+    let cs = found_chunks (Some p) s in
     let w = fits_true (lengths (chunk_lists cs)) (lengths (b ∷ c ∷ f ∷ v ∷ [])) h in
-    let size = (chunk_counts (Present p) s t).0 in
+    let size = (chunk_counts (Some p) s t).0 in
     record {
       parsing = t;
       in_bins = omega (arith, w.0, length-map cs (λ k. k.first_bin), size);
       in_counts = omega (arith, w.1.0, length-map cs points, size);
       in_fudges = omega (arith, w.1.1.0, length-map cs (λ k. k.fudge), size);
-      in_signal = omega (arith, w.1.1.1.0, signals_size cs, (chunk_counts (Present p) s t).1);
+      in_signal = omega (arith, w.1.1.1.0, signals_size cs, (chunk_counts (Some p) s t).1);
     }
 
 -- two groups of slices are judged as one

@@ -10,7 +10,7 @@ ghost use Rattle.packet_full.specs.Internal.{ChunksThere, HasChunks, chunk_list,
 use lists::holds;
 use packet_places::find_places;
 use packet_profile::{Profile, fudge_at, head_size};
-use packet_record::{PacketAnswer, PacketPlaces, PacketPlacesAnswer, PacketProfile, write_packet};
+use packet_record::{ScanDataPacket, write_packet};
 use reader::{copy_u32s, u32_at};
 use refusal::Refusal;
 
@@ -39,7 +39,7 @@ fn write_chunks(
         bins[i] = u32_at(run, at);
         counts[i] = n;
         fudges[i] = fudge_at(run, at, fudged);
-        copy_u32s(run, at + head, 4, n as u64, &mut signal[written..]);
+        let _ = copy_u32s(run, at + head, 4, n as u64, &mut signal[written..]);
         written = written + n as usize;
         at = at + head + (n as u64) * 4;
         i = i + 1;
@@ -53,16 +53,16 @@ struct ChunkCounts {
     points: u64,
 }
 
-fn chunk_counts(profile: PacketProfile) -> ChunkCounts
+fn chunk_counts(profile: Option<Profile>) -> ChunkCounts
     ensures chunks_value { result.chunks ≡ chunk_count profile }
     ensures points_value { result.points ≡ point_count profile }
 {
     match profile {
-        PacketProfile::Absent => ChunkCounts {
+        None => ChunkCounts {
             chunks: 0,
             points: 0,
         },
-        PacketProfile::Present(p) => ChunkCounts {
+        Some(p) => ChunkCounts {
             chunks: p.peak_count as u64,
             points: p.points,
         },
@@ -70,7 +70,7 @@ fn chunk_counts(profile: PacketProfile) -> ChunkCounts
 }
 
 // Whether slices of these lengths hold the lists of a profile's chunks.
-fn chunks_fit(profile: PacketProfile, bins: u64, counts: u64, fudges: u64, signal: u64) -> bool
+fn chunks_fit(profile: Option<Profile>, bins: u64, counts: u64, fudges: u64, signal: u64) -> bool
     ensures { result ≡ fits (chunk_sizes profile) (bins ∷ counts ∷ fudges ∷ signal ∷ []) }
 {
     let wanted = chunk_counts(profile);
@@ -82,7 +82,7 @@ fn chunks_fit(profile: PacketProfile, bins: u64, counts: u64, fudges: u64, signa
 // The lists of a profile's chunks, if there is one.
 fn write_profile(
     run: &[u8],
-    profile: PacketProfile,
+    profile: Option<Profile>,
     bins: &mut [u32],
     counts: &mut [u32],
     fudges: &mut [u32],
@@ -93,8 +93,8 @@ fn write_profile(
         ≡ over_all (chunk_lists (found_chunks profile run.now)) (bins.old ∷ counts.old ∷ fudges.old ∷ signal.old ∷ []) }
 {
     match profile {
-        PacketProfile::Absent => {}
-        PacketProfile::Present(p) => write_chunks(run, p, bins, counts, fudges, signal),
+        None => {}
+        Some(p) => write_chunks(run, p, bins, counts, fudges, signal),
     }
 }
 
@@ -110,16 +110,14 @@ pub fn read_packet(
     counts: &mut [u32],
     fudges: &mut [u32],
     signal: &mut [u32],
-) -> PacketAnswer
+) -> Result<ScanDataPacket, Refusal>
     ensures { LeftLists (λ c. read_packet c at run.now)
         (mz.old ∷ abundance.old ∷ descriptors.old ∷ resolutions.old ∷ bins.old ∷ counts.old ∷ fudges.old ∷ signal.old ∷ [])
         (with_nodes run.now result)
         (mz.new ∷ abundance.new ∷ descriptors.new ∷ resolutions.new ∷ bins.new ∷ counts.new ∷ fudges.new ∷ signal.new ∷ []) }
 {
-    match find_places(run, at) {
-        PacketPlacesAnswer::Refused(r) => PacketAnswer::Refused(r),
-        PacketPlacesAnswer::Places(places) => {
-            let profile = places.profile;
+    let places = find_places(run, at)?;
+let profile = places.profile;
             if chunks_fit(
                 profile,
                 bins.len() as u64,
@@ -127,16 +125,10 @@ pub fn read_packet(
                 fudges.len() as u64,
                 signal.len() as u64,
             ) {
-                match write_packet(run, places, mz, abundance, descriptors, resolutions) {
-                    PacketAnswer::Refused(r) => PacketAnswer::Refused(r),
-                    PacketAnswer::Packet(packet) => {
-                        write_profile(run, profile, bins, counts, fudges, signal);
-                        PacketAnswer::Packet(packet)
-                    }
-                }
+                let packet = write_packet(run, places, mz, abundance, descriptors, resolutions)?;
+write_profile(run, profile, bins, counts, fudges, signal);
+                        Ok(packet)
             } else {
-                PacketAnswer::Refused(Refusal::NoRoom)
+                Err(Refusal::NoRoom)
             }
-        }
-    }
 }

@@ -3,18 +3,19 @@ use mathlib.Core.Path.{◌≡◌}
 use Prim.Native.Nat.{ℕ, ◌^◌, ◌<◌}
 use lib.Dec.{lit≤}
 use Rattle.refusal.specs.Outcome.{ok}
+use Rattle.refusal.specs.Number.{outcome_of}
+use Rattle.refusal.proofs.OneAnswer.{answer_one}
 use Rattle.parser.specs.LongerBytes.{OnLongerBytes}
 use Rattle.parser.proofs.Completion.{ValueInvariant, invariant_word}
 use Rattle.parser.proofs.DemandBound.{DemandBound, Any, demand_sized, demand_known}
 use Rattle.parser.proofs.Records.{OnePart, record_part}
-use Rattle.packet_header.specs.Header.{header, read_packet_header, outcome_of}
+use Rattle.packet_header.specs.Header.{header, read_packet_header}
 use Rattle.packet_header.specs.declared.PacketHeader.{PacketHeader}
 use Rattle.packet_header.proofs.Size.{header_sized}
-use Rattle.packet_header.proofs.OneAnswer.{header_answer_one}
 
 pub header_part : (at : ℕ) → OnePart outcome_of 4 at (read_packet_header at)
 unfolding read_packet_header
-header_part at = record_part 4 at header (λ h _. ok h) 40 header_sized outcome_of header_answer_one (lit≤ tt) (λ _ _. tt)
+header_part at = record_part 4 at header (λ h _. ok h) 40 header_sized outcome_of answer_one (lit≤ tt) (λ _ _. tt)
 
 -- the terms' sentences, on what `PacketHeader::read` answers
 pub header_longer : (at : ℕ) → OnLongerBytes outcome_of (λ s r (_ : Unit {0}). outcome_of r ≡ read_packet_header at s) (λ q. q ≡ 4) (λ _ _. at < 2 ^ 62)

@@ -1,12 +1,9 @@
 -- The header of a packet: 40 bytes.
 use Rattle.std.specs.Prelude.{ℕ, List}
 use Rattle.refusal.specs.Outcome.{Outcome, ok}
-use Rattle.refusal.specs.Number.{outcome_of_refusal}
 use Rattle.parser.specs.Parser.{Parser, done, ◌>>=◌, ◌>>◌, word, skip}
 use Rattle.parser.specs.Call.{outcome, single}
 use Rattle.packet_header.specs.declared.PacketHeader.{PacketHeader}
-use Rattle.packet_header.specs.declared.HeaderAnswer.{HeaderAnswer}
-use Rattle.packet_header.specs.declared.HeaderAnswer.TheVariants as answer
 
 unfoldable pub header : Parser PacketHeader
 header = do
@@ -35,6 +32,3 @@ header = do
 unfoldable pub read_packet_header : ℕ → List ℕ → Outcome PacketHeader
 read_packet_header at run = outcome (single 4 at header (λ h _. ok h)) run
 
-abbrev pub outcome_of : HeaderAnswer → Outcome PacketHeader
-outcome_of (answer.Header h) = ok h
-outcome_of (answer.Refused r) = outcome_of_refusal r

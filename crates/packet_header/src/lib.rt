@@ -2,9 +2,10 @@
 #![tactic(auto)]
 
 ghost use Rattle.std.specs.Prelude.{◌≡◌, ◌≤◌};
+ghost use Rattle.refusal.specs.Number.{outcome_of};
 ghost use Rattle.parser.specs.Parser.{remaining};
 ghost use Rattle.parser.specs.Internal.{value};
-ghost use Rattle.packet_header.specs.Header.{header, read_packet_header, outcome_of};
+ghost use Rattle.packet_header.specs.Header.{header, read_packet_header};
 
 use reader::{remaining, u32_at};
 use refusal::{Part, Refusal};
@@ -20,12 +21,6 @@ pub struct PacketHeader {
     // The bits of two f32.
     pub low_mz: u32,
     pub high_mz: u32,
-}
-
-#[derive(Clone, Copy)]
-pub enum HeaderAnswer {
-    Header(PacketHeader),
-    Refused(Refusal),
 }
 
 // The fields of a header whose bytes are there.
@@ -47,12 +42,12 @@ fn fields(run: &[u8], at: u64) -> PacketHeader
 
 impl PacketHeader {
     // The header at a place of the run.
-    pub fn read(run: &[u8], at: u64) -> HeaderAnswer
+    pub fn read(run: &[u8], at: u64) -> Result<PacketHeader, Refusal>
         ensures { outcome_of result ≡ read_packet_header at run.now }
     {
         if 40 <= remaining(run, at) {
-            return HeaderAnswer::Header(fields(run, at));
+            return Ok(fields(run, at));
         }
-        HeaderAnswer::Refused(Refusal::Short(Part::Data))
+        Err(Refusal::Short(Part::Data))
     }
 }

@@ -1,4 +1,3 @@
 pub mod Streams
 pub mod Answers
-pub mod OneAnswer
 pub mod LongerBytes

@@ -5,6 +5,8 @@ use native.Mathlib.Omega.{arith}
 use mathlib.Core.List.{List, ◌++◌}
 use lib.Dec.{lit≤}
 use Rattle.refusal.specs.Outcome.{Outcome, ok, refused, on_ok}
+use Rattle.refusal.specs.Number.{outcome_of}
+use Rattle.refusal.proofs.OneAnswer.{answer_one}
 use Rattle.parser.specs.Call.{single}
 use Rattle.parser.specs.LongerBytes.{OnLongerBytes, PrefixProperty, Names, Completes}
 use Rattle.parser.proofs.Completion.{bounded_more}
@@ -14,9 +16,8 @@ use Rattle.parser.proofs.OnLongerBytes.{one_part, plain_longer}
 use Rattle.parser.proofs.DemandBound.{DemandBound, Any, demand_sized, demand_more}
 use Rattle.packet_header.specs.declared.PacketHeader.{PacketHeader}
 use Rattle.packet_header.proofs.LongerBytes.{Sizable}
-use Rattle.packet_labels.specs.Labels.{labels, label_places, streams_at, read_labels, outcome_of}
+use Rattle.packet_labels.specs.Labels.{labels, label_places, streams_at, read_labels}
 use Rattle.packet_labels.proofs.Answers.{total, labels_sized}
-use Rattle.packet_labels.proofs.OneAnswer.{labels_answer_one}
 
 -- an answer that is promised with what stands at its places
 pub answer_alone : {A B : Type 0} (g : A → B) (o : Outcome A) {t : Outcome (A × B)} → on_ok (λ a. (a, g a)) o ≡ t → o ≡ on_ok (λ (p : A × B). p.0) t
@@ -68,4 +69,4 @@ module _ (h : PacketHeader) (n at : ℕ) where
       (bounded_more (2 ^ 62) (3 * 2 ^ 34) (2 ^ 61) (labels h n) (lit≤ tt) (labels_demand (2 ^ 62) h n size).bounded) (λ _ _. tt)
 
   pub labels_longer : Sizable h → OnLongerBytes outcome_of (λ s r (_ : Unit {0}). on_ok (λ l. (l, streams_at s l)) (outcome_of r) ≡ read_labels h n at s) (λ q. q ≡ 4) (λ _ _. at < 2 ^ 62)
-  labels_longer size = standing_longer outcome_of labels_answer_one streams_at (read_labels h n at) labels_prefix 4 at labels_names (labels_completes size)
+  labels_longer size = standing_longer outcome_of answer_one streams_at (read_labels h n at) labels_prefix 4 at labels_names (labels_completes size)

@@ -1,14 +1,11 @@
 -- The label streams after a packet's peak list (`read_labels` of scan_data.rs). Sizes count words of four bytes.
 use Rattle.std.specs.Prelude.{ℕ, ◌+◌, ◌*◌, ◌-◌, ◌/◌, ◌&&◌, cond, List, [], leb, eqb, length}
 use Rattle.refusal.specs.Outcome.{Outcome, ok}
-use Rattle.refusal.specs.Number.{outcome_of_refusal}
 use Rattle.lists.specs.Written.{each}
 use Rattle.parser.specs.Parser.{Parser, done, ◌>>◌, bytes, raw, word, skip, check_count, counted, word_at, ◌>>=◌}
 use Rattle.parser.specs.Call.{outcome, single}
 use Rattle.packet_header.specs.declared.PacketHeader.{PacketHeader}
 use Rattle.packet_labels.specs.declared.Labels.{Labels}
-use Rattle.packet_labels.specs.declared.LabelsAnswer.{LabelsAnswer}
-use Rattle.packet_labels.specs.declared.LabelsAnswer.TheVariants as answer
 
 -- a stream of so many words: one for each of n peaks, if n is above 0, after `before` words that are passed over. A stream of another size is skipped
 unfoldable pub words_each : ℕ → ℕ → ℕ → Parser (List ℕ)
@@ -61,6 +58,3 @@ streams_at s l =
 unfoldable pub read_labels : PacketHeader → ℕ → ℕ → List ℕ → Outcome (Labels × Streams)
 read_labels h n at run = outcome (single 4 at (labels h n) (λ l _. ok (label_places h at l, l))) run
 
-abbrev pub outcome_of : LabelsAnswer → Outcome Labels
-outcome_of (answer.Labels l) = ok l
-outcome_of (answer.Refused r) = outcome_of_refusal r

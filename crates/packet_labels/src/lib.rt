@@ -3,7 +3,8 @@
 
 ghost use Rattle.std.specs.Prelude.{◌≡◌};
 ghost use Rattle.refusal.specs.Outcome.{on_ok};
-ghost use Rattle.packet_labels.specs.Labels.{read_labels, streams_at, outcome_of};
+ghost use Rattle.refusal.specs.Number.{outcome_of};
+ghost use Rattle.packet_labels.specs.Labels.{read_labels, streams_at};
 ghost use Rattle.packet_labels.specs.Internal.{word_count};
 
 use packet_header::PacketHeader;
@@ -25,12 +26,6 @@ pub struct Labels {
     pub next: u64,
 }
 
-#[derive(Clone, Copy)]
-pub enum LabelsAnswer {
-    Labels(Labels),
-    Refused(Refusal),
-}
-
 // How many words for peaks a stream of this size has: one for each, after the others, or none.
 fn word_count(peaks: u64, others: u64, size: u64) -> u64
     ensures { result ≡ word_count peaks others size }
@@ -47,14 +42,14 @@ fn word_count(peaks: u64, others: u64, size: u64) -> u64
 
 // The streams of a packet with so many peaks. Read or skipped, a stream takes four times its size, so one test judges
 // them all.
-pub fn read_labels(run: &[u8], at: u64, h: PacketHeader, peaks: u64) -> LabelsAnswer
+pub fn read_labels(run: &[u8], at: u64, h: PacketHeader, peaks: u64) -> Result<Labels, Refusal>
     ensures { on_ok (λ l. (l, streams_at run.now l)) (outcome_of result) ≡ read_labels h peaks at run.now }
 {
     let descriptors = h.descriptor_list_size as u64;
     let unknown = h.unknown_stream_size as u64;
     let triplets = h.triplet_stream_size as u64;
     if (descriptors + unknown + triplets) * 4 <= remaining(run, at) {
-        return LabelsAnswer::Labels(Labels {
+        return Ok(Labels {
             descriptors: word_count(peaks, 0, descriptors),
             descriptors_at: at,
             resolutions: word_count(peaks, 1, unknown),
@@ -64,5 +59,5 @@ pub fn read_labels(run: &[u8], at: u64, h: PacketHeader, peaks: u64) -> LabelsAn
             next: at + (descriptors + unknown + triplets) * 4,
         });
     }
-    LabelsAnswer::Refused(Refusal::Short(Part::Data))
+    Err(Refusal::Short(Part::Data))
 }

@@ -6,15 +6,15 @@ ghost use Rattle.std.specs.Prelude.{◌≡◌, ◌+◌, ◌*◌, min, length, []
 ghost use Rattle.parser.specs.Parser.{bytes};
 ghost use Rattle.noise.specs.Nodes.{nodes_of};
 ghost use Rattle.noise.specs.Line.{noise_at};
-ghost use Rattle.refusal.specs.Number.{outcome_of_count};
+ghost use Rattle.refusal.specs.Number.{outcome_of};
 ghost use Rattle.lists.specs.Left.{LeftLists};
 ghost use Rattle.noise.specs.Labels.{label_peaks};
 ghost use Rattle.packet_record.specs.Packet.{node_bytes};
 
-use noise::{NoiseAnswer, label_peaks};
+use noise::label_peaks;
 use packet_record::ScanDataPacket;
 use reader::remaining;
-use refusal::CountAnswer;
+use refusal::Refusal;
 
 // A place, or the run's end where it lies after that.
 fn start_in(run: &[u8], at: u64) -> usize
@@ -40,7 +40,7 @@ fn end_in(run: &[u8], at: u64, n: u64) -> usize
 }
 
 // Noise and baseline at a mass, by the bits of two f32.
-pub fn noise_at(run: &[u8], packet: ScanDataPacket, mz: f64) -> NoiseAnswer
+pub fn noise_at(run: &[u8], packet: ScanDataPacket, mz: f64) -> Option<(u32, u32)>
     ensures { result ≡ noise_at mz (nodes_of (node_bytes run.now packet)) }
 {
     let start = start_in(run, packet.nodes_at);
@@ -56,10 +56,10 @@ pub fn label_packet_peaks(
     flags: &mut [u8],
     noise: &mut [u32],
     baseline: &mut [u32],
-) -> CountAnswer
+) -> Result<u64, Refusal>
     ensures { LeftLists (label_peaks (nodes_of (node_bytes run.now packet)) mz.now)
         (flags.old ∷ noise.old ∷ baseline.old ∷ [])
-        (outcome_of_count result) (flags.new ∷ noise.new ∷ baseline.new ∷ []) }
+        (outcome_of result) (flags.new ∷ noise.new ∷ baseline.new ∷ []) }
 {
     let start = start_in(run, packet.nodes_at);
     let end = end_in(run, packet.nodes_at, packet.noise_nodes);

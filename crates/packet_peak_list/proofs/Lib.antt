@@ -1,4 +1,3 @@
 pub mod Lists
 pub mod Skipping
-pub mod OneAnswer
 pub mod LongerBytes

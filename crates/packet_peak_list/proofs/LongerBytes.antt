@@ -19,14 +19,13 @@ use Rattle.parser.proofs.OnLongerBytes.{one_part, left_longer, plain_longer}
 use Rattle.packet_header.specs.Header.{header}
 use Rattle.packet_header.specs.declared.PacketHeader.{PacketHeader}
 use Rattle.packet_header.proofs.LongerBytes.{Sizable, header_demand}
-use Rattle.refusal.specs.Number.{outcome_of_count}
-use Rattle.refusal.proofs.OneAnswer.{count_one}
+use Rattle.refusal.specs.Number.{outcome_of}
+use Rattle.refusal.proofs.OneAnswer.{answer_one}
 use Rattle.lists.specs.Left.{columns, pairs_if_fit, LeftPairs}
 use Rattle.peaks.specs.Peaks.{Peak}
-use Rattle.packet_peak_list.specs.PeakList.{is_wide, item_size, peak_list, list_place, read_peaks, outcome_of_list, skipping, skip_to_peaks, outcome_of_skipped, read_peaks_only}
+use Rattle.packet_peak_list.specs.PeakList.{is_wide, item_size, peak_list, list_place, read_peaks, skipping, skip_to_peaks, read_peaks_only}
 use Rattle.packet_peak_list.proofs.Lists.{peaks, peaks_sized}
 use Rattle.packet_peak_list.proofs.Skipping.{answered, paired, rest}
-use Rattle.packet_peak_list.proofs.OneAnswer.{list_answer_one, skipped_answer_one}
 
 item_most : (wide : Bool) → item_size wide ≤ 12
 item_most true = lit≤ tt
@@ -77,11 +76,11 @@ module _ (at : ℕ) where
         single_completes 4 at skipping (λ (p : PacketHeader × List Peak) _. pairs_if_fit m a p.1) skipping_bounded (λ p _. not_truncated_pairs m a p.1)
 
   pub peaks_only_longer : (mz abundance : List ℕ)
-      → OnLongerBytes outcome_of_count (λ s r (ys : List ℕ × List ℕ). LeftPairs (λ m a. read_peaks_only m a at s) mz abundance r ys.0 ys.1) (λ q. q ≡ 4) (λ _ _. at < 2 ^ 62)
+      → OnLongerBytes outcome_of (λ s r (ys : List ℕ × List ℕ). LeftPairs (λ m a. read_peaks_only m a at s) mz abundance r ys.0 ys.1) (λ q. q ≡ 4) (λ _ _. at < 2 ^ 62)
   peaks_only_longer mz abundance =
       let m = length mz in
       let a = length abundance in
-      left_longer outcome_of_count count_one (read_peaks_only m a at) (peaks_only_prefix m a) (λ q. q ≡ 4) (λ _ _. at < 2 ^ 62) (peaks_only_names m a)
+      left_longer outcome_of answer_one (read_peaks_only m a at) (peaks_only_prefix m a) (λ q. q ≡ 4) (λ _ _. at < 2 ^ 62) (peaks_only_names m a)
       (one_part 4 at (read_peaks_only m a at) (peaks_only_names m a) (peaks_only_completes m a)) length columns (mz, abundance)
 
   -- the calls that find
@@ -97,9 +96,9 @@ module _ (at : ℕ) where
   unfolding skip_to_peaks
   skip_to_peaks_completes = single_completes 4 at skipping (λ p next. ok (answered at p next)) skipping_bounded (λ _ _. tt)
 
-  pub skip_to_peaks_longer : OnLongerBytes outcome_of_skipped (λ s r (_ : Unit {0}). outcome_of_skipped r ≡ skip_to_peaks at s) (λ q. q ≡ 4) (λ _ _. at < 2 ^ 62)
+  pub skip_to_peaks_longer : OnLongerBytes outcome_of (λ s r (_ : Unit {0}). outcome_of r ≡ skip_to_peaks at s) (λ q. q ≡ 4) (λ _ _. at < 2 ^ 62)
   skip_to_peaks_longer =
-      plain_longer outcome_of_skipped skipped_answer_one (skip_to_peaks at) skip_to_peaks_prefix (λ q. q ≡ 4) (λ _ _. at < 2 ^ 62) skip_to_peaks_names
+      plain_longer outcome_of answer_one (skip_to_peaks at) skip_to_peaks_prefix (λ q. q ≡ 4) (λ _ _. at < 2 ^ 62) skip_to_peaks_names
       (one_part 4 at (skip_to_peaks at) skip_to_peaks_names skip_to_peaks_completes)
 
   module _ (h : PacketHeader) where
@@ -117,7 +116,7 @@ module _ (at : ℕ) where
         single_completes 4 at (peak_list h) (λ peaks _. ok (list_place h at peaks))
         (bounded_more (2 ^ 62) (4 + 2 ^ 36) (2 ^ 61) (peak_list h) (lit≤ tt) (peak_list_demand (2 ^ 62) h).bounded) (λ _ _. tt)
 
-    pub peak_list_longer : OnLongerBytes outcome_of_list (λ s r (_ : Unit {0}). outcome_of_list r ≡ read_peaks h at s) (λ q. q ≡ 4) (λ _ _. at < 2 ^ 62)
+    pub peak_list_longer : OnLongerBytes outcome_of (λ s r (_ : Unit {0}). outcome_of r ≡ read_peaks h at s) (λ q. q ≡ 4) (λ _ _. at < 2 ^ 62)
     peak_list_longer =
-        plain_longer outcome_of_list list_answer_one (read_peaks h at) peak_list_prefix (λ q. q ≡ 4) (λ _ _. at < 2 ^ 62) peak_list_names
+        plain_longer outcome_of answer_one (read_peaks h at) peak_list_prefix (λ q. q ≡ 4) (λ _ _. at < 2 ^ 62) peak_list_names
         (one_part 4 at (read_peaks h at) peak_list_names peak_list_completes)

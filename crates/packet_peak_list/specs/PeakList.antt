@@ -1,7 +1,6 @@
 -- The centroid peak list of a packet (`read_peaks` and `read_peaks_only` of scan_data.rs).
 use Rattle.std.specs.Prelude.{ℕ, ◌+◌, ◌*◌, ◌/◌, ◌%◌, Bool, true, false, cond, List, [], eqb, length}
 use Rattle.refusal.specs.Outcome.{Outcome, ok}
-use Rattle.refusal.specs.Number.{outcome_of_refusal}
 use Rattle.parser.specs.Parser.{Parser, done, ◌>>=◌, ◌>>◌, word, skip, counted}
 use Rattle.parser.specs.Call.{outcome, single}
 use Rattle.packet_header.specs.Header.{header}
@@ -10,10 +9,6 @@ use Rattle.lists.specs.Left.{pairs_if_fit}
 use Rattle.peaks.specs.Peaks.{Peak, peak}
 use Rattle.packet_peak_list.specs.declared.PeakList.{PeakList}
 use Rattle.packet_peak_list.specs.declared.HeaderAndPeaks.{HeaderAndPeaks}
-use Rattle.packet_peak_list.specs.declared.PeakListAnswer.{PeakListAnswer}
-use Rattle.packet_peak_list.specs.declared.PeakListAnswer.TheVariants as list
-use Rattle.packet_peak_list.specs.declared.SkippedAnswer.{SkippedAnswer}
-use Rattle.packet_peak_list.specs.declared.SkippedAnswer.TheVariants as skipped
 
 -- layout bit 16: the m/z is stored as an f64
 abbrev pub is_wide : ℕ → Bool
@@ -37,10 +32,6 @@ list_place h at peaks =
 unfoldable pub read_peaks : PacketHeader → ℕ → List ℕ → Outcome PeakList
 read_peaks h at run = outcome (single 4 at (peak_list h) (λ peaks _. ok (list_place h at peaks))) run
 
-abbrev pub outcome_of_list : PeakListAnswer → Outcome PeakList
-outcome_of_list (list.List l) = ok l
-outcome_of_list (list.Refused r) = outcome_of_refusal r
-
 -- the header, the profile, which is passed over by 4 times its stated size, and the peaks
 unfoldable pub skipping : Parser (PacketHeader × List Peak)
 skipping = do
@@ -56,10 +47,6 @@ after_skipped h at = at + 40 + h.profile_size * 4
 -- what `skip_to_peaks` answers
 unfoldable pub skip_to_peaks : ℕ → List ℕ → Outcome HeaderAndPeaks
 skip_to_peaks at run = outcome (single 4 at skipping (λ p _. ok (record { header = p.0; list = list_place p.0 (after_skipped p.0 at) p.1 }))) run
-
-abbrev pub outcome_of_skipped : SkippedAnswer → Outcome HeaderAndPeaks
-outcome_of_skipped (skipped.Packet p) = ok p
-outcome_of_skipped (skipped.Refused r) = outcome_of_refusal r
 
 -- what `read_peaks_only` answers, where slices of these capacities are lent
 unfoldable pub read_peaks_only : ℕ → ℕ → ℕ → List ℕ → Outcome (List Peak)

@@ -2,13 +2,14 @@
 #![tactic(auto)]
 
 ghost use Rattle.std.specs.Prelude.{◌≡◌, ◌≤◌};
+ghost use Rattle.refusal.specs.Number.{outcome_of};
 ghost use Rattle.lists.specs.Left.{LeftPairs};
-ghost use Rattle.packet_peak_list.specs.PeakList.{is_wide, item_size, read_peaks, outcome_of_list, skip_to_peaks, outcome_of_skipped, read_peaks_only};
+ghost use Rattle.packet_peak_list.specs.PeakList.{is_wide, item_size, read_peaks, skip_to_peaks, read_peaks_only};
 
-use packet_header::{HeaderAnswer, PacketHeader};
+use packet_header::PacketHeader;
 use peaks::write_peaks;
 use reader::{remaining, u32_at};
-use refusal::{CountAnswer, Part, Refusal};
+use refusal::{Part, Refusal};
 
 // Where the peaks of a list stand: the place of the first, how many there are, whether an m/z is an f64, and the place
 // after the list.
@@ -20,23 +21,11 @@ pub struct PeakList {
     pub next: u64,
 }
 
-#[derive(Clone, Copy)]
-pub enum PeakListAnswer {
-    List(PeakList),
-    Refused(Refusal),
-}
-
 // A packet's header and its peak list.
 #[derive(Clone, Copy)]
 pub struct HeaderAndPeaks {
     pub header: PacketHeader,
     pub list: PeakList,
-}
-
-#[derive(Clone, Copy)]
-pub enum SkippedAnswer {
-    Packet(HeaderAndPeaks),
-    Refused(Refusal),
 }
 
 fn is_wide(layout: u32) -> bool
@@ -54,12 +43,12 @@ pub fn item_size(wide: bool) -> u64
 }
 
 // The peak list at a place of the run. Nothing is written: the peaks stay where they are.
-pub fn read_peaks(run: &[u8], at: u64, h: PacketHeader) -> PeakListAnswer
-    ensures { outcome_of_list result ≡ read_peaks h at run.now }
+pub fn read_peaks(run: &[u8], at: u64, h: PacketHeader) -> Result<PeakList, Refusal>
+    ensures { outcome_of result ≡ read_peaks h at run.now }
 {
     let wide = is_wide(h.layout);
     if h.peak_list_size == 0 {
-        return PeakListAnswer::List(PeakList {
+        return Ok(PeakList {
             at,
             count: 0,
             wide,
@@ -70,7 +59,7 @@ pub fn read_peaks(run: &[u8], at: u64, h: PacketHeader) -> PeakListAnswer
         let n = u32_at(run, at) as u64;
         let all = n * item_size(wide);
         if all <= remaining(run, at + 4) {
-            return PeakListAnswer::List(PeakList {
+            return Ok(PeakList {
                 at: at + 4,
                 count: n,
                 wide,
@@ -78,34 +67,28 @@ pub fn read_peaks(run: &[u8], at: u64, h: PacketHeader) -> PeakListAnswer
             });
         }
     }
-    PeakListAnswer::Refused(Refusal::Short(Part::Data))
+    Err(Refusal::Short(Part::Data))
 }
 
 // The header and the peak list of the packet at a place of the run. The profile is passed over by its stated size.
-pub fn skip_to_peaks(run: &[u8], at: u64) -> SkippedAnswer
-    ensures { outcome_of_skipped result ≡ skip_to_peaks at run.now }
+pub fn skip_to_peaks(run: &[u8], at: u64) -> Result<HeaderAndPeaks, Refusal>
+    ensures { outcome_of result ≡ skip_to_peaks at run.now }
 {
-    let HeaderAnswer::Header(h) = PacketHeader::read(run, at) else {
-        return SkippedAnswer::Refused(Refusal::Short(Part::Data));
-    };
+    let h = PacketHeader::read(run, at)?;
     let profile = (h.profile_size as u64) * 4;
     if profile <= remaining(run, at + 40) {
-        let PeakListAnswer::List(list) = read_peaks(run, at + 40 + profile, h) else {
-            return SkippedAnswer::Refused(Refusal::Short(Part::Data));
-        };
-        return SkippedAnswer::Packet(HeaderAndPeaks { header: h, list });
+        let list = read_peaks(run, at + 40 + profile, h)?;
+        return Ok(HeaderAndPeaks { header: h, list });
     }
-    SkippedAnswer::Refused(Refusal::Short(Part::Data))
+    Err(Refusal::Short(Part::Data))
 }
 
 // The peaks of the packet at a place of the run, and nothing else of it.
-pub fn read_peaks_only(run: &[u8], at: u64, mz: &mut [u64], abundance: &mut [u32]) -> CountAnswer
+pub fn read_peaks_only(run: &[u8], at: u64, mz: &mut [u64], abundance: &mut [u32]) -> Result<u64, Refusal>
     ensures { LeftPairs (λ m a. read_peaks_only m a at run.now) mz.old abundance.old result mz.new abundance.new }
 {
-    match skip_to_peaks(run, at) {
-        SkippedAnswer::Refused(r) => CountAnswer::Refused(r),
-        SkippedAnswer::Packet(p) => {
-            let list = p.list;
+    let p = skip_to_peaks(run, at)?;
+let list = p.list;
             write_peaks(
                 run,
                 list.at,
@@ -115,6 +98,4 @@ pub fn read_peaks_only(run: &[u8], at: u64, mz: &mut [u64], abundance: &mut [u32
                 mz,
                 abundance,
             )
-        }
-    }
 }

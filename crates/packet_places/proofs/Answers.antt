@@ -1,4 +1,5 @@
 -- What finding a packet's places answers, by what `packet` finds.
+use Rattle.std.specs.Prelude.{Option}
 use mathlib.Core.Path.{◌≡◌, refl, ap, sym, subst, ◌∙◌}
 use mathlib.Core.Logic.{⊎_elim}
 use Prim.Native.Nat.{ℕ, ◌+◌}
@@ -14,8 +15,8 @@ use Rattle.packet_header.specs.Header.{read_packet_header}
 use Rattle.packet_header.specs.declared.PacketHeader.{PacketHeader}
 use Rattle.packet_peak_list.specs.PeakList.{read_peaks}
 use Rattle.packet_peak_list.specs.declared.PeakList.{PeakList}
+use Rattle.packet_profile.specs.declared.Profile.{Profile}
 use Rattle.packet_record.specs.Packet.{OptionalProfile, Contents, contents_at, profile_place, with_labels}
-use Rattle.packet_record.specs.declared.PacketProfile.{PacketProfile}
 use Rattle.packet_record.specs.declared.PacketPlaces.{PacketPlaces}
 use Rattle.packet_record.proofs.Found.{Stands}
 use Rattle.packet_places.specs.Packet.{optional_profile, packet}
@@ -24,7 +25,7 @@ use Rattle.packet_places.specs.Internal.{find_profile, after_header, in_turn}
 use Rattle.packet_places.proofs.Stages.{header_short, k, profile_ran_out, peaks_short, labels_short, whole}
 
 -- the labels leave the profile as it was found
-with_profile : (s : List ℕ) (h : PacketHeader) (p : PacketProfile) (list : PeakList) {v : PacketPlaces} {l : Streams} → ok (v, l) ≡ with_labels h p list s → v.profile ≡ p
+with_profile : (s : List ℕ) (h : PacketHeader) (p : Option Profile) (list : PeakList) {v : PacketPlaces} {l : Streams} → ok (v, l) ≡ with_labels h p list s → v.profile ≡ p
 unfolding with_labels
 with_profile s h p list e =
     ap (λ (q : PacketPlaces × Streams). q.0.profile)
@@ -40,7 +41,7 @@ module _ (s : List ℕ) (at : ℕ) where
       (λ (b : Both (read_packet_header at s) (λ h. after_header h at s) (refused n carries)). beyond b.value b.first b.second)
       (one_refused (λ h. after_header h at s) (read_packet_header at s) i)
     where
-      last : (h : PacketHeader) → ok h ≡ read_packet_header at s → (p : PacketProfile × ℕ) → ok p ≡ find_profile h at s
+      last : (h : PacketHeader) → ok h ≡ read_packet_header at s → (p : Option Profile × ℕ) → ok p ≡ find_profile h at s
           → refused n carries ≡ and_then (read_peaks h p.1 s) (λ list. with_labels h p.0 list s) → RanOut 4 packet s at n carries
       last h e p f j =
           ⊎_elim

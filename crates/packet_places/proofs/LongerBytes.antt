@@ -3,6 +3,8 @@ use mathlib.Core.Path.{◌≡◌}
 use Prim.Native.Nat.{ℕ, ◌+◌, ◌*◌, ◌^◌, ◌<◌}
 use lib.Dec.{eqb, lit≤}
 use Rattle.refusal.specs.Outcome.{ok, on_ok}
+use Rattle.refusal.specs.Number.{outcome_of}
+use Rattle.refusal.proofs.OneAnswer.{answer_one}
 use Rattle.parser.specs.Parser.{done, ◌>>=◌}
 use Rattle.parser.specs.Call.{single}
 use Rattle.parser.specs.LongerBytes.{OnLongerBytes, PrefixProperty, Names, Completes}
@@ -17,9 +19,8 @@ use Rattle.packet_peak_list.proofs.LongerBytes.{peak_list_demand}
 use Rattle.packet_labels.proofs.LongerBytes as labels
 use Rattle.packet_profile.specs.Profile.{profile}
 use Rattle.packet_profile.proofs.LongerBytes.{profile_demand}
-use Rattle.packet_record.specs.Packet.{absent, present, after_peaks, contents_at, outcome_of_packet_places}
+use Rattle.packet_record.specs.Packet.{absent, present, after_peaks, contents_at}
 use Rattle.packet_record.proofs.LongerBytes.{after_demand}
-use Rattle.packet_record.proofs.OneAnswer.{places_answer_one}
 use Rattle.packet_places.specs.Packet.{optional_profile, packet}
 use Rattle.packet_places.specs.Places.{packet_places, find_places}
 use Rattle.packet_places.proofs.Stages.{keep, after_profile, rest}
@@ -62,5 +63,5 @@ module _ (at : ℕ) where
   unfolding find_places
   places_completes = single_completes 4 at packet (λ p _. ok (packet_places at p, p.contents)) packet_bounded (λ _ _. tt)
 
-  pub places_longer : OnLongerBytes outcome_of_packet_places (λ s r (_ : Unit {0}). on_ok (λ v. (v, contents_at s v)) (outcome_of_packet_places r) ≡ find_places at s) (λ q. q ≡ 4) (λ _ _. at < 2 ^ 62)
-  places_longer = labels.standing_longer outcome_of_packet_places places_answer_one contents_at (find_places at) places_prefix 4 at places_names places_completes
+  pub places_longer : OnLongerBytes outcome_of (λ s r (_ : Unit {0}). on_ok (λ v. (v, contents_at s v)) (outcome_of r) ≡ find_places at s) (λ q. q ≡ 4) (λ _ _. at < 2 ^ 62)
+  places_longer = labels.standing_longer outcome_of answer_one contents_at (find_places at) places_prefix 4 at places_names places_completes

@@ -1,4 +1,5 @@
 -- The stages of a whole packet: what was found stage by stage is what `packet` finds.
+use Rattle.std.specs.Prelude.{Some, None, Option}
 use mathlib.Core.Path.{◌≡◌, refl, ap, sym, subst, ◌∙◌}
 use Prim.Native.Nat.{ℕ, ◌+◌}
 use native.Mathlib.Nat.{add-zero}
@@ -25,8 +26,6 @@ use Rattle.packet_profile.proofs.Answers.{profiled, unprofiled}
 use Rattle.packet_profile.proofs.Size.{profile_end}
 use Rattle.packet_labels.specs.Labels.{Streams}
 use Rattle.packet_record.specs.Packet.{OptionalProfile, absent, present, Packet, after_peaks, profile_place, places_from, with_labels}
-use Rattle.packet_record.specs.declared.PacketProfile.{PacketProfile}
-use Rattle.packet_record.specs.declared.PacketProfile.TheVariants.{Absent, Present}
 use Rattle.packet_record.specs.declared.PacketPlaces.{PacketPlaces}
 use Rattle.packet_record.proofs.Found.{Stands, ran_out_after, found_after}
 use Rattle.packet_places.specs.Packet.{optional_profile, optional_size, packet}
@@ -45,7 +44,7 @@ rest h = optional_profile h >>= after_profile h
 
 -- the profile
 module _ (h : PacketHeader) (at : ℕ) (s : List ℕ) where
-  pub no_profile : h.profile_size ≡ 0 → ok (Absent, at + 40) ≡ find_profile h at s
+  pub no_profile : h.profile_size ≡ 0 → ok (None, at + 40) ≡ find_profile h at s
   unfolding find_profile outcome optional_profile parse
   no_profile e = rw (eq-eqb h.profile_size 0 e)
 
@@ -60,11 +59,11 @@ module _ (h : PacketHeader) (at : ℕ) (s : List ℕ) where
         let r = unprofiled h.layout s (at + 40) e in
         rw (r.one, r.part, to_profile, parse_bind (profile h.layout) keep s (at + 40), r.there)
 
-    pub profile_found : {p : Profile} {next : ℕ} → ok (p, next) ≡ read_profile h.layout (at + 40) s → ok (Present p, next) ≡ find_profile h at s
+    pub profile_found : {p : Profile} {next : ℕ} → ok (p, next) ≡ read_profile h.layout (at + 40) s → ok (Some p, next) ≡ find_profile h at s
     unfolding find_profile outcome keep parse
     profile_found {p} {next} e =
         let r = profiled h.layout s (at + 40) e in
-        rw (to_profile, parse_bind (profile h.layout) keep s (at + 40), r.there) (ap (λ (v : Profile). ok (Present v, next)) r.made)
+        rw (to_profile, parse_bind (profile h.layout) keep s (at + 40), r.there) (ap (λ (v : Profile). ok (Some v, next)) r.made)
 
 -- a profile that was kept was parsed, and ends by its size
 by_test : (h : PacketHeader) (s : List ℕ) (place : ℕ) (p : Axis × List Chunk) (next : ℕ) (b : Bool)
@@ -111,18 +110,18 @@ module _ (s : List ℕ) (at : ℕ) where
 
   module _ (h : PacketHeader) (e : ok h ≡ read_packet_header at s) where
     -- the profile that was found
-    pub record ProfileFound (p : PacketProfile) (next : ℕ) : Type 0 where
+    pub record ProfileFound (p : Option Profile) (next : ℕ) : Type 0 where
       pub profile : OptionalProfile
       pub there : parse (optional_profile h) s (at + 40) ≡ parsed profile next
       pub is : p ≡ profile_place h.layout at profile
       pub end : next ≡ at + 40 + optional_size h profile
 
-    profile_at : (p : PacketProfile) (next : ℕ) → ok (p, next) ≡ find_profile h at s → ProfileFound p next
+    profile_at : (p : Option Profile) (next : ℕ) → ok (p, next) ≡ find_profile h at s → ProfileFound p next
     unfolding find_profile
     profile_at p next f =
         let w = found 4 (at + 40) (optional_profile h) (λ (q : OptionalProfile) (end : ℕ). (profile_place h.layout at q, end)) s f in
-        let there = w.there ∙ ap (parsed w.value) (sym (ap (λ (v : PacketProfile × ℕ). v.1) w.made)) in
-        record { profile = w.value; there = there; is = ap (λ (v : PacketProfile × ℕ). v.0) w.made; end = optional_end h s (at + 40) w.value next there }
+        let there = w.there ∙ ap (parsed w.value) (sym (ap (λ (v : Option Profile × ℕ). v.1) w.made)) in
+        record { profile = w.value; there = there; is = ap (λ (v : Option Profile × ℕ). v.0) w.made; end = optional_end h s (at + 40) w.value next there }
 
     pub profile_ran_out : {n : ℕ} {carries : List ℕ} → refused n carries ≡ find_profile h at s → RanOut 4 packet s at n carries
     unfolding find_profile rest
@@ -130,7 +129,7 @@ module _ (s : List ℕ) (at : ℕ) where
         let r = ran_out_lem 4 (at + 40) (optional_profile h) (λ (q : OptionalProfile) (end : ℕ). (profile_place h.layout at q, end)) s f in
         record { there = to_rest e ∙ parse_bind (optional_profile h) (after_profile h) s (at + 40) ∙ rw r.there; one = r.one; part = r.part }
 
-    module _ (p : PacketProfile) (next : ℕ) (f : ok (p, next) ≡ find_profile h at s) where
+    module _ (p : Option Profile) (next : ℕ) (f : ok (p, next) ≡ find_profile h at s) where
       pub k : ProfileFound p next
       k = profile_at p next f
 
@@ -175,7 +174,7 @@ module _ (s : List ℕ) (at : ℕ) where
           (λ ls. ap (λ q. places_from q next (packet_of ls)) k.is ∙ ap (λ (n : ℕ). places_from (profile_place h.layout at k.profile) n (packet_of ls)) k.end) l.stand i
 
 -- the stages after a header in turn
-module _ (h : PacketHeader) (at : ℕ) (s : List ℕ) {p : PacketProfile} {next : ℕ} (f : ok (p, next) ≡ find_profile h at s) where
+module _ (h : PacketHeader) (at : ℕ) (s : List ℕ) {p : Option Profile} {next : ℕ} (f : ok (p, next) ≡ find_profile h at s) where
   pub then_no_peaks : {n : ℕ} {carries : List ℕ} → refused n carries ≡ read_peaks h next s → refused n carries ≡ after_header h at s
   unfolding after_header
   then_no_peaks g = rw (← f, ← g)

@@ -1,4 +1,7 @@
 -- What reading a profile answers, by the tests that decide it.
+use Rattle.std.specs.Prelude.{Ok, Err}
+use Rattle.refusal.specs.declared.Part.TheVariants.{Data}
+use Rattle.refusal.specs.declared.Refusal.TheVariants.{Short}
 use mathlib.Core.Path.{◌≡◌, refl, ap, sym, ◌∙◌}
 use Prim.Native.Nat.{ℕ, ◌+◌, ◌*◌, ◌≤◌, ◌<◌}
 use native.Mathlib.Nat.{add-zero}
@@ -20,7 +23,6 @@ use Rattle.packet_profile.specs.Internal.{chunks_answer}
 use Rattle.packet_profile.proofs.Chunks.{chunks}
 use Rattle.packet_profile.specs.declared.Profile.{Profile}
 use Rattle.packet_profile.specs.declared.ChunkList.{ChunkList}
-use Rattle.packet_profile.specs.declared.ChunksAnswer.TheVariants as answer
 
 pub axis_sized : Sized 24 axis
 unfolding axis
@@ -42,13 +44,13 @@ pub record Listed (o : Parsed (List Chunk)) (w next : ℕ) : Type 0 where
   pub there : o ≡ parsed list next
   pub holds : sum points list ≡ w
 
-listed : (o : Parsed (List Chunk)) (w next : ℕ) → answer.Chunks (record { points = w; next = next }) ≡ chunks_answer o → Listed o w next
+listed : (o : Parsed (List Chunk)) (w next : ℕ) → Ok (record { points = w; next = next }) ≡ chunks_answer o → Listed o w next
 listed short w next h = let c : ◌≡◌ {A = ℕ} 0 1 = cc in absurd (omega arith)
 listed (parsed cs end) w next h =
     let same : ◌≡◌ {A = ChunkList} (record { points = w; next = next }) (record { points = sum points cs; next = end }) = cc in
     record { list = cs; there = ap (parsed cs) (sym (ap (λ (c : ChunkList). c.next) same)); holds = sym (ap (λ (c : ChunkList). c.points) same) }
 
-unlisted : (o : Parsed (List Chunk)) → answer.Short ≡ chunks_answer o → o ≡ short
+unlisted : (o : Parsed (List Chunk)) → Err (Short Data) ≡ chunks_answer o → o ≡ short
 unlisted short h = refl
 unlisted (parsed cs end) h = let c : ◌≡◌ {A = ℕ} 0 1 = cc in absurd (omega arith)
 
@@ -78,13 +80,13 @@ module _ (layout : ℕ) (s : List ℕ) (at : ℕ) where
       unfolding counted parse list
       is_list = rw (le-leb _ _ u)
 
-      pub short_chunks : (fudged : Bool) → fudged ≡ is_fudged layout → answer.Short ≡ chunks_answer (parse (repeat count (chunk fudged)) s (at + 24)) → ran_out 4 ≡ read_profile layout at s
+      pub short_chunks : (fudged : Bool) → fudged ≡ is_fudged layout → Err (Short Data) ≡ chunks_answer (parse (repeat count (chunk fudged)) s (at + 24)) → ran_out 4 ≡ read_profile layout at s
       unfolding read_profile outcome rest list
       short_chunks fudged f i =
           let j = rw f at i in
           rw (to_list, parse_bind (chunks (is_fudged layout) count) (paired (axis_at s at count)) s (at + 24), is_list, unlisted list j)
 
-      pub whole_profile : (fudged : Bool) → fudged ≡ is_fudged layout → (c : ChunkList) → answer.Chunks c ≡ chunks_answer (parse (repeat count (chunk fudged)) s (at + 24))
+      pub whole_profile : (fudged : Bool) → fudged ≡ is_fudged layout → (c : ChunkList) → Ok c ≡ chunks_answer (parse (repeat count (chunk fudged)) s (at + 24))
           → ok (
             record {
               first_value = little_endian (bytes s at 8);

@@ -1,4 +1,7 @@
 -- A chunk is two tests and its values, by their places; the place after a list of chunks is found chunk by chunk.
+use Rattle.std.specs.Prelude.{Ok, Err}
+use Rattle.refusal.specs.declared.Part.TheVariants.{Data}
+use Rattle.refusal.specs.declared.Refusal.TheVariants.{Short}
 use mathlib.Core.Path.{◌≡◌, refl, ap, sym, ◌∙◌}
 use Prim.Native.Nat.{ℕ, ◌+◌, ◌*◌, ◌≤◌, ◌<◌}
 use native.Mathlib.Nat.{add-zero, zero-add}
@@ -16,7 +19,6 @@ use Rattle.parser.specs.Walk.{sum}
 use Rattle.parser.proofs.Walk.{total, WalkInvariant, walk_short, walk_all}
 use Rattle.packet_profile.specs.Profile.{head_size, Chunk, points, fudge, chunk, fudge_at}
 use Rattle.packet_profile.specs.Internal.{chunks_answer}
-use Rattle.packet_profile.specs.declared.ChunksAnswer.TheVariants as answer
 
 -- a chunk in two stages: what has one size, and its values
 pub record Head : Type 0 where
@@ -110,18 +112,18 @@ module _ (fudged : Bool) (s : List ℕ) (at : ℕ) where
 
 -- turns of the loop over a list of chunks
 pub list_short : (fudged : Bool) (count : ℕ) (s : List ℕ) (start i at w : ℕ) → i < count → WalkInvariant points (chunk fudged) s start count i at w → parse (chunk fudged) s at ≡ short
-    → answer.Short ≡ chunks_answer (parse (repeat count (chunk fudged)) s start)
+    → Err (Short Data) ≡ chunks_answer (parse (repeat count (chunk fudged)) s start)
 list_short fudged count s start i at w more before h = go (parse (repeat count (chunk fudged)) s start) (walk_short points (chunk fudged) s start count i at w more before h)
   where
-    go : (o : Parsed (List Chunk)) → total points o ≡ short → answer.Short ≡ chunks_answer o
+    go : (o : Parsed (List Chunk)) → total points o ≡ short → Err (Short Data) ≡ chunks_answer o
     go short e = refl
     go (parsed cs next) e = parsed_not_short e
 
 pub list_all : (fudged : Bool) (count : ℕ) (s : List ℕ) (start : ℕ) {at w : ℕ} → WalkInvariant points (chunk fudged) s start count count at w
-    → answer.Chunks (record { points = w; next = at }) ≡ chunks_answer (parse (repeat count (chunk fudged)) s start)
+    → Ok (record { points = w; next = at }) ≡ chunks_answer (parse (repeat count (chunk fudged)) s start)
 list_all fudged count s start {at} {w} before = go (parse (repeat count (chunk fudged)) s start) (walk_all points (chunk fudged) s start count before)
   where
-    go : (o : Parsed (List Chunk)) → total points o ≡ parsed w at → answer.Chunks (record { points = w; next = at }) ≡ chunks_answer o
+    go : (o : Parsed (List Chunk)) → total points o ≡ parsed w at → Ok (record { points = w; next = at }) ≡ chunks_answer o
     go short e = short_not_parsed e
     go (parsed cs next) e =
         let p : sum points cs ≡ w = cc in

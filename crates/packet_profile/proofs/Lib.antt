@@ -2,5 +2,4 @@ pub mod Chunks
 pub mod Signals
 pub mod Answers
 pub mod Size
-pub mod OneAnswer
 pub mod LongerBytes

@@ -6,16 +6,17 @@ use mathlib.Core.Bool.{Bool, true, false}
 use mathlib.Core.List.{List, ◌++◌}
 use lib.Dec.{lit≤}
 use Rattle.refusal.specs.Outcome.{ok}
+use Rattle.refusal.specs.Number.{outcome_of}
+use Rattle.refusal.proofs.OneAnswer.{answer_one}
 use Rattle.parser.specs.Parser.{parse, repeat, counted}
 use Rattle.parser.specs.LongerBytes.{OnLongerBytes}
 use Rattle.parser.proofs.Prefix.{prefix_parsed}
 use Rattle.parser.proofs.Completion.{extent, bounded_more, ValueInvariant, invariant_word}
 use Rattle.parser.proofs.Records.{OnePart, single_part}
 use Rattle.parser.proofs.DemandBound.{DemandBound, Any, demand_sized, demand_known, demand_more, demand_done, demand_ahead, demand_repeat, demand_bind}
-use Rattle.packet_profile.specs.Profile.{is_fudged, points, head_size, chunk, find_signal, outcome_of_signal, Axis, axis, profile, profile_record, read_profile, outcome_of}
+use Rattle.packet_profile.specs.Profile.{is_fudged, points, head_size, chunk, find_signal, Axis, axis, profile, profile_record, read_profile}
 use Rattle.packet_profile.specs.declared.Profile.{Profile}
 use Rattle.packet_profile.proofs.Chunks.{Head, head, values, chunks, whole, rest, staged, head_sized, values_sized}
-use Rattle.packet_profile.proofs.OneAnswer.{profile_answer_one, signal_answer_one}
 use Rattle.packet_profile.proofs.Answers.{axis_sized, paired, profiled}
 use Rattle.packet_profile.proofs.Answers.{rest as beyond}
 
@@ -81,7 +82,7 @@ module _ (layout at : ℕ) where
   pub profile_part : OnePart outcome_of 4 at (read_profile layout at)
   unfolding read_profile
   profile_part =
-      single_part 4 at (profile layout) (λ p next. ok (profile_record layout at p, next)) outcome_of profile_answer_one
+      single_part 4 at (profile layout) (λ p next. ok (profile_record layout at p, next)) outcome_of answer_one
       (bounded_more (2 ^ 62) (24 + 2 ^ 37) (2 ^ 61) (profile layout) (lit≤ tt) (profile_demand (2 ^ 62) layout).bounded) (λ _ _. tt)
 
   pub profile_longer : OnLongerBytes outcome_of (λ s r (_ : Unit {0}). outcome_of r ≡ read_profile layout at s) (λ q. q ≡ 4) (λ _ _. at < 2 ^ 62)
@@ -95,8 +96,8 @@ module _ (layout at : ℕ) where
       prefix_parsed (repeat v.peak_count (chunk v.fudged)) s t v.chunks_at c ∙ sym c
 
 pub signal_longer : (fudged : Bool) (at : ℕ)
-    → OnLongerBytes outcome_of_signal (λ s r (_ : Unit {0}). outcome_of_signal r ≡ find_signal fudged at s) (λ q. q ≡ 4) (λ _ _. at < 2 ^ 62)
+    → OnLongerBytes outcome_of (λ s r (_ : Unit {0}). outcome_of r ≡ find_signal fudged at s) (λ q. q ≡ 4) (λ _ _. at < 2 ^ 62)
 unfolding find_signal
 signal_longer fudged at =
-    (single_part 4 at (chunk fudged) (λ c next. ok (record { at = at + head_size fudged; points = points c; next = next })) outcome_of_signal signal_answer_one
+    (single_part 4 at (chunk fudged) (λ c next. ok (record { at = at + head_size fudged; points = points c; next = next })) outcome_of answer_one
     (bounded_more (2 ^ 62) (12 + 2 ^ 34) (2 ^ 61) (chunk fudged) (lit≤ tt) (chunk_demand (2 ^ 62) fudged).bounded) (λ _ _. tt)).longer

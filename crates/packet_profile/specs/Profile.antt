@@ -1,16 +1,11 @@
 -- The profile of a packet (`Profile::read` of scan_data.rs).
 use Rattle.std.specs.Prelude.{ℕ, ◌+◌, ◌*◌, ◌%◌, Bool, true, false, not, List, eqb, length}
 use Rattle.refusal.specs.Outcome.{Outcome, ok}
-use Rattle.refusal.specs.Number.{outcome_of_refusal}
 use Rattle.parser.specs.Parser.{Parser, done, ◌>>=◌, word, counted, word_at}
 use Rattle.parser.specs.Walk.{sum}
 use Rattle.parser.specs.Call.{outcome, single}
 use Rattle.packet_profile.specs.declared.Profile.{Profile}
 use Rattle.packet_profile.specs.declared.Signal.{Signal}
-use Rattle.packet_profile.specs.declared.SignalAnswer.{SignalAnswer}
-use Rattle.packet_profile.specs.declared.SignalAnswer.TheVariants as signal
-use Rattle.packet_profile.specs.declared.ProfileAnswer.{ProfileAnswer}
-use Rattle.packet_profile.specs.declared.ProfileAnswer.TheVariants as answer
 
 -- a layout whose low byte is not 0 gives each chunk a fudge
 abbrev pub is_fudged : ℕ → Bool
@@ -50,10 +45,6 @@ fudge_at false s at = 0
 -- what `signal_at` answers of the chunk at `at`: where its signal stands, how many values it has, and the place after it
 unfoldable pub find_signal : Bool → ℕ → List ℕ → Outcome Signal
 find_signal fudged at run = outcome (single 4 at (chunk fudged) (λ c next. ok (record { at = at + head_size fudged; points = points c; next = next }))) run
-
-abbrev pub outcome_of_signal : SignalAnswer → Outcome Signal
-outcome_of_signal (signal.Signal v) = ok v
-outcome_of_signal (signal.Refused r) = outcome_of_refusal r
 
 -- what stands before the chunks: the bits of two f64, and two counts
 pub record Axis : Type 0 where
@@ -97,6 +88,3 @@ profile_record layout at p =
 unfoldable pub read_profile : ℕ → ℕ → List ℕ → Outcome (Profile × ℕ)
 read_profile layout at run = outcome (single 4 at (profile layout) (λ p next. ok (profile_record layout at p, next))) run
 
-abbrev pub outcome_of : ProfileAnswer → Outcome (Profile × ℕ)
-outcome_of (answer.Profile p next) = ok (p, next)
-outcome_of (answer.Refused r) = outcome_of_refusal r

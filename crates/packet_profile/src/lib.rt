@@ -2,8 +2,9 @@
 #![tactic(auto)]
 
 ghost use Rattle.std.specs.Prelude.{◌≡◌, ◌≤◌};
+ghost use Rattle.refusal.specs.Number.{outcome_of};
 ghost use Rattle.parser.specs.Parser.{parse, repeat};
-ghost use Rattle.packet_profile.specs.Profile.{is_fudged, head_size, chunk, fudge_at, find_signal, outcome_of_signal, read_profile, outcome_of};
+ghost use Rattle.packet_profile.specs.Profile.{is_fudged, head_size, chunk, fudge_at, find_signal, read_profile};
 ghost use Rattle.packet_profile.specs.Internal.{chunks_answer};
 
 use reader::{remaining, saturating_add, u32_at, u64_at};
@@ -25,13 +26,6 @@ pub struct Profile {
     pub points: u64,
 }
 
-#[derive(Clone, Copy)]
-pub enum ProfileAnswer {
-    // The profile, and the place after it.
-    Profile(Profile, u64),
-    Refused(Refusal),
-}
-
 // Where a chunk's signal stands, how many values it has, and the place after it.
 #[derive(Clone, Copy)]
 pub struct Signal {
@@ -40,23 +34,11 @@ pub struct Signal {
     pub next: u64,
 }
 
-#[derive(Clone, Copy)]
-pub enum SignalAnswer {
-    Signal(Signal),
-    Refused(Refusal),
-}
-
 // How many signal values the chunks hold, and the place after them.
 #[derive(Clone, Copy)]
 struct ChunkList {
     points: u64,
     next: u64,
-}
-
-#[derive(Clone, Copy)]
-enum ChunksAnswer {
-    Chunks(ChunkList),
-    Short,
 }
 
 fn is_fudged(layout: u32) -> bool
@@ -86,18 +68,18 @@ pub fn fudge_at(run: &[u8], at: u64, fudged: bool) -> u32
 }
 
 // The signal of the chunk at a place.
-pub fn signal_at(run: &[u8], at: u64, fudged: bool) -> SignalAnswer
-    ensures { outcome_of_signal result ≡ find_signal fudged at run.now }
+pub fn signal_at(run: &[u8], at: u64, fudged: bool) -> Result<Signal, Refusal>
+    ensures { outcome_of result ≡ find_signal fudged at run.now }
 {
     let head = head_size(fudged);
     if remaining(run, at) < head {
-        return SignalAnswer::Refused(Refusal::Short(Part::Data));
+        return Err(Refusal::Short(Part::Data));
     }
     let points = u32_at(run, at + 4) as u64;
     if remaining(run, at + head) < points * 4 {
-        return SignalAnswer::Refused(Refusal::Short(Part::Data));
+        return Err(Refusal::Short(Part::Data));
     }
-    SignalAnswer::Signal(Signal {
+    Ok(Signal {
         at: at + head,
         points,
         next: at + head + points * 4,
@@ -105,39 +87,35 @@ pub fn signal_at(run: &[u8], at: u64, fudged: bool) -> SignalAnswer
 }
 
 // Each chunk that is passed is there, so the loop ends with the run, whatever count is stored.
-fn pass_chunks(run: &[u8], start: u64, fudged: bool, count: u32) -> ChunksAnswer
+fn pass_chunks(run: &[u8], start: u64, fudged: bool, count: u32) -> Result<ChunkList, Refusal>
     ensures { result ≡ chunks_answer (parse (repeat count (chunk fudged)) run.now start) }
 {
     let mut at = start;
     let mut points: u64 = 0;
     let mut i: u32 = 0;
     while i < count {
-        let SignalAnswer::Signal(signal) = signal_at(run, at, fudged) else {
-            return ChunksAnswer::Short;
-        };
+        let signal = signal_at(run, at, fudged)?;
         points = points + signal.points;
         at = signal.next;
         i = i + 1;
     }
-    ChunksAnswer::Chunks(ChunkList { points, next: at })
+    Ok(ChunkList { points, next: at })
 }
 
 impl Profile {
     // The profile at a place of the run, in a packet of this layout.
-    pub fn read(run: &[u8], at: u64, layout: u32) -> ProfileAnswer
+    pub fn read(run: &[u8], at: u64, layout: u32) -> Result<(Profile, u64), Refusal>
         ensures { outcome_of result ≡ read_profile layout at run.now }
     {
         if remaining(run, at) < 24 {
-            return ProfileAnswer::Refused(Refusal::Short(Part::Data));
+            return Err(Refusal::Short(Part::Data));
         }
         let count = u32_at(run, at + 16);
         if remaining(run, at + 24) < (count as u64) * 8 {
-            return ProfileAnswer::Refused(Refusal::Short(Part::Data));
+            return Err(Refusal::Short(Part::Data));
         }
         let fudged = is_fudged(layout);
-        let ChunksAnswer::Chunks(chunks) = pass_chunks(run, at + 24, fudged, count) else {
-            return ProfileAnswer::Refused(Refusal::Short(Part::Data));
-        };
+        let chunks = pass_chunks(run, at + 24, fudged, count)?;
         let profile = Profile {
             first_value: u64_at(run, at),
             step: u64_at(run, at + 8),
@@ -147,6 +125,6 @@ impl Profile {
             chunks_at: at + 24,
             points: chunks.points,
         };
-        ProfileAnswer::Profile(profile, chunks.next)
+        Ok((profile, chunks.next))
     }
 }

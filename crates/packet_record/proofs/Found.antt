@@ -1,4 +1,5 @@
 -- A packet whose labels were found after its peak list, by the places that were answered.
+use Rattle.std.specs.Prelude.{Option}
 use mathlib.Core.Path.{◌≡◌, refl, ap, sym, subst, ◌∙◌}
 use Prim.Native.Nat.{ℕ}
 use mathlib.Core.List.{List}
@@ -15,8 +16,8 @@ use Rattle.packet_peak_list.specs.declared.PeakList.{PeakList}
 use Rattle.packet_labels.specs.Labels.{Streams, labels, label_places, streams_at, read_labels}
 use Rattle.packet_labels.specs.declared.Labels.{Labels}
 use Rattle.packet_labels.proofs.Answers.{labelled, unlabelled}
+use Rattle.packet_profile.specs.declared.Profile.{Profile}
 use Rattle.packet_record.specs.Packet.{OptionalProfile, Packet, after_peaks, places_from, contents_at, with_labels}
-use Rattle.packet_record.specs.declared.PacketProfile.{PacketProfile}
 use Rattle.packet_record.specs.declared.PacketPlaces.{PacketPlaces}
 
 -- the packet that stands at these places, which a reader gives it, and has this profile
@@ -31,7 +32,7 @@ pub record Stands (p : Parser Packet) (places : Packet → PacketPlaces) (s : Li
 unfoldable pub whole : PacketHeader → OptionalProfile → List Peak → Streams → Parser Packet
 whole h profile peaks l = done (record { header = h; profile = profile; contents = record { peaks = peaks; labels = l } })
 
-module _ (p : Parser Packet) (s : List ℕ) (at start : ℕ) (h : PacketHeader) (profile : OptionalProfile) (peaks : List Peak) (list : PeakList) (v : PacketProfile)
+module _ (p : Parser Packet) (s : List ℕ) (at start : ℕ) (h : PacketHeader) (profile : OptionalProfile) (peaks : List Peak) (list : PeakList) (v : Option Profile)
     (list_end : parse p s at ≡ parse (after_peaks h profile peaks) s list.next) (is : list ≡ list_place h start peaks) where
   to_labels : parse p s at ≡ parse (labels h list.count >>= whole h profile peaks) s list.next
   unfolding after_peaks whole

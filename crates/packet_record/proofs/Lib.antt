@@ -1,4 +1,3 @@
 pub mod Writing
 pub mod Found
-pub mod OneAnswer
 pub mod LongerBytes

@@ -1,9 +1,12 @@
 -- Demand 3 for the labels of a packet and for whoever hands one out, and what a packet asks for after its peak list.
+use Rattle.std.specs.Prelude.{Option}
 use mathlib.Core.Path.{◌≡◌, refl, ◌∙◌}
 use Prim.Native.Nat.{ℕ, ◌*◌, ◌^◌, ◌<◌}
 use mathlib.Core.List.{List, ◌++◌}
 use lib.ListN.{length}
 use Rattle.refusal.specs.Outcome.{Outcome, ok, refused, on_ok}
+use Rattle.refusal.specs.Number.{outcome_of}
+use Rattle.refusal.proofs.OneAnswer.{answer_one}
 use Rattle.lists.specs.Left.{fits, lengths, over_all, Left, lists_if_fit}
 use Rattle.parser.specs.LongerBytes.{OnLongerBytes, PrefixProperty, Names, Completes}
 use Rattle.parser.proofs.Calls.{NotTruncated, not_truncated_room}
@@ -17,19 +20,18 @@ use Rattle.packet_peak_list.specs.declared.PeakList.{PeakList}
 use Rattle.packet_labels.specs.Labels.{Streams, labels, streams_at, read_labels}
 use Rattle.packet_labels.specs.declared.Labels.{Labels}
 use Rattle.packet_labels.proofs.LongerBytes.{answer_alone, longer_from, standing_longer, labels_demand, labels_prefix, labels_names, labels_completes}
-use Rattle.packet_record.specs.Packet.{OptionalProfile, Contents, after_peaks, with_labels, outcome_of_packet_places, record_of, lists_of, packet_if_fits, outcome_of, node_bytes, with_nodes}
-use Rattle.packet_record.specs.declared.PacketProfile.{PacketProfile}
+use Rattle.packet_profile.specs.declared.Profile.{Profile}
+use Rattle.packet_record.specs.Packet.{OptionalProfile, Contents, after_peaks, with_labels, record_of, lists_of, packet_if_fits, node_bytes, with_nodes}
 use Rattle.packet_record.specs.declared.PacketPlaces.{PacketPlaces}
 use Rattle.packet_record.specs.declared.ScanDataPacket.{ScanDataPacket}
 use Rattle.packet_record.proofs.Found.{whole}
-use Rattle.packet_record.proofs.OneAnswer.{packet_answer_one, places_answer_one}
 
 pub after_demand : (far : ℕ) (h : PacketHeader) → Sizable h → (profile : OptionalProfile) (peaks : List Peak) → DemandBound far (3 * 2 ^ 34) Any (after_peaks h profile peaks)
 unfolding after_peaks whole
 after_demand far h size profile peaks =
     demand_bind far (3 * 2 ^ 34) 0 Any Any (whole h profile peaks) (λ _ _. demand_done far 0 Any _ tt) (labels h (length peaks)) (labels_demand far h (length peaks) size)
 
-module _ (h : PacketHeader) (profile : PacketProfile) (list : PeakList) where
+module _ (h : PacketHeader) (profile : Option Profile) (list : PeakList) where
   with : Labels × Streams → PacketPlaces × Streams
   with l = (record { header = h; profile = profile; list = list; labels = l.0 }, l.1)
 
@@ -46,10 +48,10 @@ module _ (h : PacketHeader) (profile : PacketProfile) (list : PeakList) where
     unfolding with_labels with
     with_labels_completes = on_ok_completes with (read_labels h list.count list.next) 4 list.next (labels_completes h list.count list.next size)
 
-    pub with_labels_longer : OnLongerBytes outcome_of_packet_places (λ s r (_ : Unit {0}). on_ok (λ v. (v, streams_at s v.labels)) (outcome_of_packet_places r) ≡ with_labels h profile list s) (λ q. q ≡ 4)
+    pub with_labels_longer : OnLongerBytes outcome_of (λ s r (_ : Unit {0}). on_ok (λ v. (v, streams_at s v.labels)) (outcome_of r) ≡ with_labels h profile list s) (λ q. q ≡ 4)
         (λ _ _. list.next < 2 ^ 62)
     with_labels_longer =
-        standing_longer outcome_of_packet_places places_answer_one (λ s v. streams_at s v.labels) (with_labels h profile list) with_labels_prefix 4 list.next with_labels_names with_labels_completes
+        standing_longer outcome_of answer_one (λ s v. streams_at s v.labels) (with_labels h profile list) with_labels_prefix 4 list.next with_labels_names with_labels_completes
 
 -- ---- whoever hands a packet out
 pub fits_not_truncated : (capacities : List ℕ) (v : PacketPlaces) (c : Contents) (more : List (List ℕ)) → NotTruncated (packet_if_fits capacities v c more)
@@ -64,5 +66,5 @@ pub lists_longer : (f : List ℕ → Outcome ((ScanDataPacket × List ℕ) × Li
     → OnLongerBytes outcome_of (λ s r ys. Left (λ v. v.0) (λ v. over_all v.1) (f s) xs (with_nodes s r) ys) (λ q. q ≡ 4) (λ _ _. at < 2 ^ 62)
 lists_longer f prefix at names completes xs =
     longer_from (λ s r ys l. record { answered = answer_alone (node_bytes s) (outcome_of r) l.answered ∙ firsts_of (f s); stands = l.stands })
-    (left_longer outcome_of packet_answer_one f prefix (λ q. q ≡ 4) (λ _ _. at < 2 ^ 62) names (one_part 4 at f names completes)
+    (left_longer outcome_of answer_one f prefix (λ q. q ≡ 4) (λ _ _. at < 2 ^ 62) names (one_part 4 at f names completes)
     (λ (v : (ScanDataPacket × List ℕ) × List (List ℕ)). v.0.0) (λ (v : (ScanDataPacket × List ℕ) × List (List ℕ)). over_all v.1) xs)

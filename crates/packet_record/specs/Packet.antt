@@ -1,7 +1,8 @@
 -- What a packet holds, where it stands, and what is handed out of it (`ScanDataPacket` of scan_data.rs).
-use Rattle.std.specs.Prelude.{ℕ, ◌+◌, ◌*◌, List, [], ◌∷◌, ◌++◌, length}
+use Rattle.std.specs.Prelude.{ℕ, ◌+◌, ◌*◌, List, [], ◌∷◌, ◌++◌, length, Some, None, Option, Result}
 use Rattle.refusal.specs.Outcome.{Outcome, ok, on_ok}
-use Rattle.refusal.specs.Number.{outcome_of_refusal}
+use Rattle.refusal.specs.Number.{outcome_of}
+use Rattle.refusal.specs.declared.Refusal.{Refusal}
 use Rattle.lists.specs.Left.{firsts, seconds, lists_if_fit}
 use Rattle.parser.specs.Parser.{Parser, done, bytes, ◌>>=◌}
 use Rattle.packet_header.specs.declared.PacketHeader.{PacketHeader}
@@ -10,14 +11,9 @@ use Rattle.packet_peak_list.specs.PeakList.{item_size, list_place}
 use Rattle.packet_peak_list.specs.declared.PeakList.{PeakList}
 use Rattle.packet_labels.specs.Labels.{Streams, labels, label_places, streams_at, read_labels}
 use Rattle.packet_profile.specs.Profile.{Axis, Chunk, profile_record}
-use Rattle.packet_record.specs.declared.PacketProfile.{PacketProfile}
-use Rattle.packet_record.specs.declared.PacketProfile.TheVariants.{Absent, Present}
+use Rattle.packet_profile.specs.declared.Profile.{Profile}
 use Rattle.packet_record.specs.declared.PacketPlaces.{PacketPlaces}
-use Rattle.packet_record.specs.declared.PacketPlacesAnswer.{PacketPlacesAnswer}
-use Rattle.packet_record.specs.declared.PacketPlacesAnswer.TheVariants as places
 use Rattle.packet_record.specs.declared.ScanDataPacket.{ScanDataPacket}
-use Rattle.packet_record.specs.declared.PacketAnswer.{PacketAnswer}
-use Rattle.packet_record.specs.declared.PacketAnswer.TheVariants as answer
 
 -- a profile, or none
 pub data OptionalProfile : Type 0 where
@@ -39,12 +35,12 @@ unfoldable pub after_peaks : PacketHeader → OptionalProfile → List Peak → 
 after_peaks h profile peaks = labels h (length peaks) >>= λ l. done (record { header = h; profile = profile; contents = record { peaks = peaks; labels = l } })
 
 -- where the profile of the packet at `at` stands: after the header, of 40 bytes
-abbrev pub profile_place : ℕ → ℕ → OptionalProfile → PacketProfile
-profile_place layout at absent = Absent
-profile_place layout at (present p) = Present (profile_record layout (at + 40) p)
+abbrev pub profile_place : ℕ → ℕ → OptionalProfile → Option Profile
+profile_place layout at absent = None
+profile_place layout at (present p) = Some (profile_record layout (at + 40) p)
 
 -- where the parts of a packet stand whose peak list starts at `at`: the labels follow the list
-unfoldable pub places_from : PacketProfile → ℕ → Packet → PacketPlaces
+unfoldable pub places_from : Option Profile → ℕ → Packet → PacketPlaces
 places_from profile at p =
     let list = list_place p.header at p.contents.peaks in
     record { header = p.header; profile = profile; list = list; labels = label_places p.header list.next p.contents.labels }
@@ -54,12 +50,8 @@ abbrev pub contents_at : List ℕ → PacketPlaces → Contents
 contents_at s v = record { peaks = peaks_at v.list.wide (item_size v.list.wide) s v.list.at v.list.count; labels = streams_at s v.labels }
 
 -- what `with_labels` answers, with the streams that stand there
-unfoldable pub with_labels : PacketHeader → PacketProfile → PeakList → List ℕ → Outcome (PacketPlaces × Streams)
+unfoldable pub with_labels : PacketHeader → Option Profile → PeakList → List ℕ → Outcome (PacketPlaces × Streams)
 with_labels h profile list run = on_ok (λ l. (record { header = h; profile = profile; list = list; labels = l.0 }, l.1)) (read_labels h list.count list.next run)
-
-abbrev pub outcome_of_packet_places : PacketPlacesAnswer → Outcome PacketPlaces
-outcome_of_packet_places (places.Places p) = ok p
-outcome_of_packet_places (places.Refused r) = outcome_of_refusal r
 
 -- the answer's record
 unfoldable pub record_of : PacketPlaces → ScanDataPacket
@@ -82,13 +74,9 @@ lists_of c = firsts c.peaks ∷ seconds c.peaks ∷ c.labels.descriptors ∷ c.l
 unfoldable pub packet_if_fits : List ℕ → PacketPlaces → Contents → List (List ℕ) → Outcome ((ScanDataPacket × List ℕ) × List (List ℕ))
 packet_if_fits capacities v c more = lists_if_fit capacities (record_of v, c.labels.nodes) (lists_of c ++ more)
 
-abbrev pub outcome_of : PacketAnswer → Outcome ScanDataPacket
-outcome_of (answer.Packet p) = ok p
-outcome_of (answer.Refused r) = outcome_of_refusal r
-
 -- the bytes of the nodes, twelve each, at the place that the record says; and an answer with them
 abbrev pub node_bytes : List ℕ → ScanDataPacket → List ℕ
 node_bytes s p = bytes s p.nodes_at (p.noise_nodes * 12)
 
-abbrev pub with_nodes : List ℕ → PacketAnswer → Outcome (ScanDataPacket × List ℕ)
+abbrev pub with_nodes : List ℕ → Result ScanDataPacket Refusal → Outcome (ScanDataPacket × List ℕ)
 with_nodes s r = on_ok (λ p. (p, node_bytes s p)) (outcome_of r)

@@ -4,29 +4,23 @@
 
 ghost use Rattle.std.specs.Prelude.{◌≡◌, true, [], ◌∷◌};
 ghost use Rattle.refusal.specs.Outcome.{on_ok};
+ghost use Rattle.refusal.specs.Number.{outcome_of};
 ghost use Rattle.lists.specs.Left.{fits, lengths, over_all, LeftLists};
 ghost use Rattle.packet_labels.specs.Labels.{streams_at};
-ghost use Rattle.packet_record.specs.Packet.{contents_at, with_labels, outcome_of_packet_places, record_of, lists_of, packet_if_fits, with_nodes};
+ghost use Rattle.packet_record.specs.Packet.{contents_at, with_labels, record_of, lists_of, packet_if_fits, with_nodes};
 
 use lists::holds;
 use packet_header::PacketHeader;
-use packet_labels::{Labels, LabelsAnswer, read_labels};
+use packet_labels::{Labels, read_labels};
 use packet_peak_list::{PeakList, item_size};
 use packet_profile::Profile;
 use reader::{copy_u32s, saturating_add};
 use refusal::Refusal;
 
-// A packet without a profile, or one whose profile is passed over, has none.
-#[derive(Clone, Copy)]
-pub enum PacketProfile {
-    Absent,
-    Present(Profile),
-}
-
 #[derive(Clone, Copy)]
 pub struct ScanDataPacket {
     pub header: PacketHeader,
-    pub profile: PacketProfile,
+    pub profile: Option<Profile>,
     // How much of each lent slice was written; peaks counts masses and abundances alike.
     pub peaks: u64,
     pub descriptors: u64,
@@ -38,45 +32,31 @@ pub struct ScanDataPacket {
     pub next: u64,
 }
 
-#[derive(Clone, Copy)]
-pub enum PacketAnswer {
-    Packet(ScanDataPacket),
-    Refused(Refusal),
-}
-
 // Where a packet's parts stand, before anything is written.
 #[derive(Clone, Copy)]
 pub struct PacketPlaces {
     pub header: PacketHeader,
-    pub profile: PacketProfile,
+    pub profile: Option<Profile>,
     pub list: PeakList,
     pub labels: Labels,
-}
-
-#[derive(Clone, Copy)]
-pub enum PacketPlacesAnswer {
-    Places(PacketPlaces),
-    Refused(Refusal),
 }
 
 // The places of a packet whose peak list was found: its labels follow.
 pub fn with_labels(
     run: &[u8],
     header: PacketHeader,
-    profile: PacketProfile,
+    profile: Option<Profile>,
     list: PeakList,
-) -> PacketPlacesAnswer
-    ensures { on_ok (λ v. (v, streams_at run.now v.labels)) (outcome_of_packet_places result) ≡ with_labels header profile list run.now }
+) -> Result<PacketPlaces, Refusal>
+    ensures { on_ok (λ v. (v, streams_at run.now v.labels)) (outcome_of result) ≡ with_labels header profile list run.now }
 {
-    match read_labels(run, list.next, header, list.count) {
-        LabelsAnswer::Refused(r) => PacketPlacesAnswer::Refused(r),
-        LabelsAnswer::Labels(labels) => PacketPlacesAnswer::Places(PacketPlaces {
+    let labels = read_labels(run, list.next, header, list.count)?;
+Ok(PacketPlaces {
             header,
             profile,
             list,
             labels,
-        }),
-    }
+        })
 }
 
 // A packet's peaks and labels, over the fronts of slices that hold them.
@@ -95,15 +75,15 @@ fn write_lists(
     let list = places.list;
     let labels = places.labels;
     let stride = item_size(list.wide);
-    peaks::write_peaks(run, list.at, stride, list.count, list.wide, mz, abundance);
-    copy_u32s(
+    let _ = peaks::write_peaks(run, list.at, stride, list.count, list.wide, mz, abundance);
+    let _ = copy_u32s(
         run,
         labels.descriptors_at,
         4,
         labels.descriptors,
         descriptors,
     );
-    copy_u32s(
+    let _ = copy_u32s(
         run,
         saturating_add(labels.unknown_at, 4),
         4,
@@ -140,7 +120,7 @@ pub fn write_packet(
     abundance: &mut [u32],
     descriptors: &mut [u32],
     resolutions: &mut [u32],
-) -> PacketAnswer
+) -> Result<ScanDataPacket, Refusal>
     ensures { LeftLists (λ c. packet_if_fits c places (contents_at run.now places) [])
         (mz.old ∷ abundance.old ∷ descriptors.old ∷ resolutions.old ∷ [])
         (with_nodes run.now result) (mz.new ∷ abundance.new ∷ descriptors.new ∷ resolutions.new ∷ []) }
@@ -158,7 +138,7 @@ pub fn write_packet(
         holds(n, abundance.len() as u64, labels_fit),
     ) {
         write_lists(run, places, mz, abundance, descriptors, resolutions);
-        return PacketAnswer::Packet(record_of(places));
+        return Ok(record_of(places));
     }
-    PacketAnswer::Refused(Refusal::NoRoom)
+    Err(Refusal::NoRoom)
 }

@@ -1,9 +1,11 @@
 -- Demand 3 for a packet whose profile is passed over.
+use Rattle.std.specs.Prelude.{None}
 use mathlib.Core.Path.{◌≡◌}
 use Prim.Native.Nat.{ℕ, ◌+◌, ◌*◌, ◌^◌, ◌<◌}
 use mathlib.Core.List.{List, []}
 use lib.Dec.{lit≤}
 use Rattle.refusal.specs.Outcome.{Outcome}
+use Rattle.refusal.specs.Number.{outcome_of}
 use Rattle.lists.specs.Left.{lengths, LeftLists}
 use Rattle.parser.specs.Call.{single}
 use Rattle.parser.specs.LongerBytes.{OnLongerBytes, PrefixProperty, Names, Completes}
@@ -15,8 +17,7 @@ use Rattle.packet_header.proofs.LongerBytes.{Sizable}
 use Rattle.peaks.specs.Peaks.{Peak}
 use Rattle.packet_peak_list.specs.PeakList.{skipping, after_skipped}
 use Rattle.packet_peak_list.proofs.LongerBytes.{skipping_demand}
-use Rattle.packet_record.specs.Packet.{absent, Packet, places_from, packet_if_fits, outcome_of, with_nodes}
-use Rattle.packet_record.specs.declared.PacketProfile.TheVariants.{Absent}
+use Rattle.packet_record.specs.Packet.{absent, Packet, places_from, packet_if_fits, with_nodes}
 use Rattle.packet_record.specs.declared.ScanDataPacket.{ScanDataPacket}
 use Rattle.packet_record.proofs.LongerBytes.{after_demand, fits_not_truncated, lists_longer}
 use Rattle.packet_skipping.specs.Skipping.{packet_skipping, read_skip_profile}
@@ -38,11 +39,11 @@ packet_bounded = bounded_more (2 ^ 62) most (2 ^ 61) packet_skipping (lit≤ tt)
 module _ (at : ℕ) where
   module _ (capacities : List ℕ) where
     given : Packet → ℕ → Outcome ((ScanDataPacket × List ℕ) × List (List ℕ))
-    given p _ = packet_if_fits capacities (places_from Absent (after_skipped p.header at) p) p.contents []
+    given p _ = packet_if_fits capacities (places_from None (after_skipped p.header at) p) p.contents []
 
     given_not_truncated : (p : Packet) (next : ℕ) → NotTruncated (given p next)
     unfolding given
-    given_not_truncated p _ = fits_not_truncated capacities (places_from Absent (after_skipped p.header at) p) p.contents []
+    given_not_truncated p _ = fits_not_truncated capacities (places_from None (after_skipped p.header at) p) p.contents []
 
     pub skip_profile_prefix : PrefixProperty (read_skip_profile capacities at)
     unfolding read_skip_profile given

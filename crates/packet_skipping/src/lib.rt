@@ -6,8 +6,9 @@ ghost use Rattle.lists.specs.Left.{LeftLists};
 ghost use Rattle.packet_record.specs.Packet.{with_nodes};
 ghost use Rattle.packet_skipping.specs.Skipping.{read_skip_profile};
 
-use packet_peak_list::{SkippedAnswer, skip_to_peaks};
-use packet_record::{PacketAnswer, PacketPlacesAnswer, PacketProfile, with_labels, write_packet};
+use packet_peak_list::skip_to_peaks;
+use packet_record::{ScanDataPacket, with_labels, write_packet};
+use refusal::Refusal;
 
 pub fn read_skip_profile(
     run: &[u8],
@@ -16,22 +17,14 @@ pub fn read_skip_profile(
     abundance: &mut [u32],
     descriptors: &mut [u32],
     resolutions: &mut [u32],
-) -> PacketAnswer
+) -> Result<ScanDataPacket, Refusal>
     ensures { LeftLists (λ c. read_skip_profile c at run.now)
         (mz.old ∷ abundance.old ∷ descriptors.old ∷ resolutions.old ∷ [])
         (with_nodes run.now result) (mz.new ∷ abundance.new ∷ descriptors.new ∷ resolutions.new ∷ []) }
 {
-    match skip_to_peaks(run, at) {
-        SkippedAnswer::Refused(r) => PacketAnswer::Refused(r),
-        SkippedAnswer::Packet(p) => {
-            let header = p.header;
+    let p = skip_to_peaks(run, at)?;
+let header = p.header;
             let list = p.list;
-            match with_labels(run, header, PacketProfile::Absent, list) {
-                PacketPlacesAnswer::Refused(r) => PacketAnswer::Refused(r),
-                PacketPlacesAnswer::Places(places) => {
-                    write_packet(run, places, mz, abundance, descriptors, resolutions)
-                }
-            }
-        }
-    }
+            let places = with_labels(run, header, None, list)?;
+write_packet(run, places, mz, abundance, descriptors, resolutions)
 }

@@ -1,4 +1,5 @@
 -- A loop that writes the pairs of a profile's chunks, each chunk's through the tails after those of the chunk before.
+use Rattle.std.specs.Prelude.{Result}
 use mathlib.Core.Path.{◌≡◌, refl, ap, sym, ◌∙◌}
 use Prim.Native.Nat.{ℕ, zero, suc, ◌+◌, ◌*◌, ◌-◌, ◌≤◌, ◌<◌}
 use native.Mathlib.Nat.{sub-zero}
@@ -7,7 +8,7 @@ use mathlib.Core.Bool.{Bool}
 use mathlib.Core.List.{List, [], ◌∷◌, ◌++◌, append-nil, append_assoc, map-append}
 use lib.Ieee.{Float, binary32, of_bits}
 use lib.ListN.{length, take, drop, length-append, length-map, length-take, length-drop}
-use Rattle.refusal.specs.declared.CountAnswer.{CountAnswer}
+use Rattle.refusal.specs.declared.Refusal.{Refusal}
 use Rattle.lists.specs.Written.{each, over}
 use Rattle.lists.specs.Left.{firsts, seconds, pairs_if_fit, LeftPairs}
 use Rattle.lists.proofs.Laws.{length-each, get_or-each, over_none, over_tail, length_over}
@@ -128,7 +129,7 @@ module _ (p : Profile) (coefficients s : List ℕ) (mz₀ intensity₀ : List Fl
           sym (counted p coefficients s) ∙ ap length more ∙ length-append (w.pairs ++ new) _ in
           omega (arith, w.count, length-append w.pairs new, size_new)
 
-      pub writing_more : (first_bin fudge : ℕ) → first_bin ≡ little_endian (bytes s at 4) → fudge ≡ fudge_at p.fudged s at → (r : CountAnswer) (ys zs : List Float) (k l : ℕ)
+      pub writing_more : (first_bin fudge : ℕ) → first_bin ≡ little_endian (bytes s at 4) → fudge ≡ fudge_at p.fudged s at → (r : Result ℕ Refusal) (ys zs : List Float) (k l : ℕ)
           → k ≡ length mz - n → l ≡ length intensity - n
           → LeftPairs (λ a b. pairs_if_fit a b (chunk_pairs (bins_of p) first_bin fudge coefficients s v.at v.points)) (take k (drop n mz)) (take l (drop n intensity)) r ys zs
           → Writing (take n mz ++ (ys ++ drop k (drop n mz))) (take n intensity ++ (zs ++ drop l (drop n intensity))) (n + v.points) (i + 1) v.next

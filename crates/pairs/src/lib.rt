@@ -14,9 +14,9 @@ ghost use Rattle.pairs.specs.Internal.{float_at};
 use calibration::{Bins, write_chunk};
 use float_bits::{f64_of_bits, widened};
 use lists::holds;
-use packet_profile::{Profile, SignalAnswer, fudge_at, signal_at};
+use packet_profile::{Profile, fudge_at, signal_at};
 use reader::{saturating_add, u32_at, u64_at};
-use refusal::{CountAnswer, Refusal};
+use refusal::Refusal;
 
 // How many pairs a profile has. The walk ends at the first chunk that the run does not hold, whatever count the record says.
 fn count_pairs(run: &[u8], profile: Profile) -> u64
@@ -26,7 +26,7 @@ fn count_pairs(run: &[u8], profile: Profile) -> u64
     let mut pairs: u64 = 0;
     let mut passed: u32 = 0;
     while passed < profile.peak_count {
-        let SignalAnswer::Signal(found) = signal_at(run, at, profile.fudged) else {
+        let Ok(found) = signal_at(run, at, profile.fudged) else {
             return pairs;
         };
         pairs = pairs + found.points;
@@ -57,10 +57,10 @@ fn write_pairs(
     let mut n: usize = 0;
     let mut i: u32 = 0;
     while i < profile.peak_count {
-        let SignalAnswer::Signal(signal) = signal_at(run, at, profile.fudged) else {
+        let Ok(signal) = signal_at(run, at, profile.fudged) else {
             return;
         };
-        write_chunk(
+        let _ = write_chunk(
             run,
             signal.at,
             signal.points,
@@ -84,7 +84,7 @@ pub fn to_mz_intensity(
     coefficients: &[u64],
     mz: &mut [f64],
     intensity: &mut [f64],
-) -> CountAnswer
+) -> Result<u64, Refusal>
     ensures { LeftPairs (λ m i. pairs_if_fit m i (profile_pairs profile coefficients.now run.now)) mz.old intensity.old result mz.new intensity.new }
 {
     let pairs = count_pairs(run, profile);
@@ -94,9 +94,9 @@ pub fn to_mz_intensity(
         holds(pairs, intensity.len() as u64, true),
     ) {
         write_pairs(run, profile, coefficients, mz, intensity);
-        return CountAnswer::Count(pairs);
+        return Ok(pairs);
     }
-    CountAnswer::Refused(Refusal::NoRoom)
+    Err(Refusal::NoRoom)
 }
 
 // A number that is stored as an f64, or as an f32.
@@ -141,14 +141,14 @@ pub fn peak_pairs(
     wide: bool,
     mz: &mut [f64],
     intensity: &mut [f64],
-) -> CountAnswer
+) -> Result<u64, Refusal>
     ensures { LeftPairs (λ m i. pairs_if_fit m i (peak_pairs (peaks_at wide stride run.now at n))) mz.old intensity.old result mz.new intensity.new }
 {
     if holds(n, mz.len() as u64, holds(n, intensity.len() as u64, true)) {
         copy_floats(run, at, stride, n, wide, mz);
         let beyond = saturating_add(at, mz_size(wide));
         copy_floats(run, beyond, stride, n, false, intensity);
-        return CountAnswer::Count(n);
+        return Ok(n);
     }
-    CountAnswer::Refused(Refusal::NoRoom)
+    Err(Refusal::NoRoom)
 }

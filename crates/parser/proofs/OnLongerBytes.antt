@@ -4,6 +4,7 @@ use Prim.Native.Nat.{ℕ, ◌^◌, ◌<◌}
 use mathlib.Core.List.{List, ◌++◌}
 use lib.ListN.{length}
 use Rattle.refusal.specs.Outcome.{Outcome, ran_out, on_ok}
+use Rattle.refusal.specs.Number.{outcome_of}
 use Rattle.lists.specs.Left.{Left, after}
 use Rattle.parser.specs.LongerBytes.{Bytes, OnLongerBytes, PrefixProperty, Names, CompletesOn, Completes}
 use Rattle.parser.proofs.PrefixedBy.{on_ok_out}

@@ -5,6 +5,7 @@ use mathlib.Core.List.{List}
 use lib.Dec.{leb}
 use borrow.Author.Tests.{leb-true, le-leb, lt-leb}
 use Rattle.refusal.specs.Outcome.{Outcome, ran_out}
+use Rattle.refusal.specs.Number.{outcome_of}
 use Rattle.parser.specs.Parser.{Parser, parsed, remaining, parse}
 use Rattle.parser.specs.Call.{outcome, single}
 use Rattle.parser.specs.Internal.{Sized, value}

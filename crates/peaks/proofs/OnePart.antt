@@ -4,8 +4,8 @@ use Prim.Native.Nat.{ℕ, ◌^◌, ◌<◌}
 use mathlib.Core.List.{List}
 use lib.ListN.{length}
 use Rattle.refusal.specs.Outcome.{Outcome}
-use Rattle.refusal.specs.Number.{outcome_of_count}
-use Rattle.refusal.proofs.OneAnswer.{count_one}
+use Rattle.refusal.specs.Number.{outcome_of}
+use Rattle.refusal.proofs.OneAnswer.{answer_one}
 use Rattle.lists.specs.Left.{columns, LeftPairs}
 use Rattle.parser.specs.Parser.{Parser}
 use Rattle.parser.specs.Call.{outcome, single}
@@ -35,9 +35,9 @@ module _ {D : Type 0} (part at : ℕ) (p : Parser D) where
         (one_part part at (call f) (call_names f done) (call_completes f done))
 
     pub pairs_longer : {X Y : Type 0} (f : ℕ → ℕ → D → Outcome (List (X × Y))) → ((m n : ℕ) (v : D) → NotTruncated (f m n v)) → (xs : List X) (ys : List Y)
-        → OnLongerBytes outcome_of_count (λ s r (zs : List X × List Y). LeftPairs (λ m n. call (f m n) s) xs ys r zs.0 zs.1) (λ q. q ≡ part) (λ _ _. at < 2 ^ 62)
+        → OnLongerBytes outcome_of (λ s r (zs : List X × List Y). LeftPairs (λ m n. call (f m n) s) xs ys r zs.0 zs.1) (λ q. q ≡ part) (λ _ _. at < 2 ^ 62)
     pairs_longer f done xs ys =
         let g = f (length xs) (length ys) in
         let whole = done (length xs) (length ys) in
-        left_longer outcome_of_count count_one (call g) (call_prefix g) (λ q. q ≡ part) (λ _ _. at < 2 ^ 62) (call_names g whole)
+        left_longer outcome_of answer_one (call g) (call_prefix g) (λ q. q ≡ part) (λ _ _. at < 2 ^ 62) (call_names g whole)
         (one_part part at (call g) (call_names g whole) (call_completes g whole)) length columns (xs, ys)

@@ -11,14 +11,7 @@ ghost use Rattle.peaks.specs.Peaks.{widened_bits, peaks_at};
 use float_bits::{bits_of_f64, widened};
 use lists::holds;
 use reader::{copy_u32s, copy_u64s, saturating_add, u32_at};
-use refusal::{CountAnswer, Refusal};
-
-// Where the m/z of the first of some peaks stands, and how many there are.
-#[derive(Clone, Copy)]
-pub enum PeaksPlace {
-    At { place: u64, count: u64 },
-    Refused(Refusal),
-}
+use refusal::Refusal;
 
 fn widened_bits(bits: u32) -> u64
     ensures { result ≡ widened_bits bits }
@@ -27,11 +20,11 @@ fn widened_bits(bits: u32) -> u64
 }
 
 // Masses that are stored as f32, over the front of a lent slice that holds them.
-fn copy_widened(run: &[u8], at: u64, stride: u64, n: u64, out: &mut [u64]) -> CountAnswer
+fn copy_widened(run: &[u8], at: u64, stride: u64, n: u64, out: &mut [u64]) -> Result<u64, Refusal>
     ensures { LeftList (each (λ i. widened_bits (word_at run.now (at + i * stride) 4)) n) out.old result out.new }
 {
     if n > out.len() as u64 {
-        return CountAnswer::Refused(Refusal::NoRoom);
+        return Err(Refusal::NoRoom);
     }
     let end = n as usize;
     let mut place = at;
@@ -41,7 +34,7 @@ fn copy_widened(run: &[u8], at: u64, stride: u64, n: u64, out: &mut [u64]) -> Co
         place = saturating_add(place, stride);
         i = i + 1;
     }
-    CountAnswer::Count(n)
+    Ok(n)
 }
 
 // The columns of n peaks, each `stride` bytes after the one before: an m/z, and right after it the abundance.
@@ -58,12 +51,12 @@ fn write_columns(
     ensures abundance_after { abundance.new ≡ fitting (seconds (peaks_at wide stride run.now at n)) abundance.old }
 {
     if wide {
-        copy_u64s(run, at, stride, n, mz);
-        copy_u32s(run, saturating_add(at, 8), stride, n, abundance);
+        let _ = copy_u64s(run, at, stride, n, mz);
+        let _ = copy_u32s(run, saturating_add(at, 8), stride, n, abundance);
         return;
     }
-    copy_widened(run, at, stride, n, mz);
-    copy_u32s(run, saturating_add(at, 4), stride, n, abundance);
+    let _ = copy_widened(run, at, stride, n, mz);
+    let _ = copy_u32s(run, saturating_add(at, 4), stride, n, abundance);
 }
 
 // The same, where both slices hold them.
@@ -75,12 +68,12 @@ pub fn write_peaks(
     wide: bool,
     mz: &mut [u64],
     abundance: &mut [u32],
-) -> CountAnswer
+) -> Result<u64, Refusal>
     ensures { LeftPairs (λ m a. pairs_if_fit m a (peaks_at wide stride run.now at n)) mz.old abundance.old result mz.new abundance.new }
 {
     if holds(n, mz.len() as u64, holds(n, abundance.len() as u64, true)) {
         write_columns(run, at, stride, n, wide, mz, abundance);
-        return CountAnswer::Count(n);
+        return Ok(n);
     }
-    CountAnswer::Refused(Refusal::NoRoom)
+    Err(Refusal::NoRoom)
 }

@@ -1,7 +1,7 @@
 // Preambles of scan events: the crate `event_preamble`.
 ghost use Rattle.std.specs.Prelude.{◌≤◌, length};
 
-use codes::{Activation, Code};
+use codes::Activation;
 use event_preamble::ScanEventPreamble;
 use probe_text::request::U32;
 use probe_text::{answer, request};
@@ -18,12 +18,12 @@ pub(crate) fn preamble_size(rest: &[u8], out: &mut [u8], n: usize) -> usize
 }
 
 // A code as one field.
-fn put_code(out: &mut [u8], n: usize, code: Code) -> usize
+fn put_code(out: &mut [u8], n: usize, code: Option<u32>) -> usize
     ensures { result ≤ length out.new }
 {
     match code {
-        Code::Known(code) => answer::number(out, n, code as u64),
-        Code::None => answer::put(out, n, b" -"),
+        Some(code) => answer::number(out, n, code as u64),
+        None => answer::put(out, n, b" -"),
     }
 }
 

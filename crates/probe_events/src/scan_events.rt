@@ -3,10 +3,11 @@ ghost use Rattle.std.specs.Prelude.{◌≤◌, length};
 
 use crate::preambles;
 use event_counted::read_counted_v66;
-use event_record::{EventAnswer, ScanEvent};
+use event_record::{EventAndNext, ScanEvent};
 use event_window::Window;
 use probe_text::request::{LENT, PREAMBLE, U32, U64};
 use probe_text::{answer, lent, request};
+use refusal::Refusal;
 
 // Which function reads the event, and what it is given beside the run and the place.
 #[derive(Clone, Copy)]
@@ -87,16 +88,16 @@ pub fn put_event(out: &mut [u8], n: usize, e: ScanEvent, next: u64) -> usize
     answer::number(out, n, next)
 }
 
-fn put_answer(out: &mut [u8], n: usize, answer: EventAnswer) -> usize
+fn put_answer(out: &mut [u8], n: usize, answer: Result<EventAndNext, Refusal>) -> usize
     ensures { result ≤ length out.new }
 {
     match answer {
-        EventAnswer::Event(read) => {
+        Ok(read) => {
             let event = read.event;
             let n = answer::ok(out, n);
             put_event(out, n, event, read.next)
         }
-        EventAnswer::Refused(refusal) => answer::refused(out, n, refusal),
+        Err(refusal) => answer::refused(out, n, refusal),
     }
 }
 

@@ -5,13 +5,14 @@ ghost use Rattle.std.specs.Prelude.{◌≤◌, length};
 ghost use Rattle.probe_text.specs.Held.{held};
 
 use float_narrow::narrowed;
-use noise::{NoiseAnswer, label_peaks, noise_at};
+use noise::{label_peaks, noise_at};
+use packet_labels::Labels;
 use packet_noise::label_packet_peaks;
-use packet_record::PacketAnswer;
+use packet_record::ScanDataPacket;
 use packet_skipping::read_skip_profile;
 use probe_text::request::{LENT, Lengths, U64};
 use probe_text::{Answered, answer, lent, request};
-use refusal::CountAnswer;
+use refusal::Refusal;
 
 fn narrow(rest: &[u8], out: &mut [u8], n: usize) -> usize
     ensures { result ≤ length out.new }
@@ -24,12 +25,12 @@ fn narrow(rest: &[u8], out: &mut [u8], n: usize) -> usize
     answer::float32(out, n, narrowed(float_bits::f64_of_bits(field.value)))
 }
 
-fn put_noise(out: &mut [u8], n: usize, answer: NoiseAnswer) -> usize
+fn put_noise(out: &mut [u8], n: usize, answer: Option<(u32, u32)>) -> usize
     ensures { result ≤ length out.new }
 {
     match answer {
-        NoiseAnswer::None => answer::none(out, n),
-        NoiseAnswer::Values(noise, baseline) => {
+        None => answer::none(out, n),
+        Some((noise, baseline)) => {
             let n = answer::ok(out, n);
             let n = answer::bits32(out, n, noise);
             answer::bits32(out, n, baseline)
@@ -118,12 +119,12 @@ fn labels(rest: &[u8], data: &mut [u8], out: &mut [u8], n: usize) -> usize
     lend_labels(&masses[0..k], nodes, f, lent, out, n)
 }
 
-fn put_packet_noise(out: &mut [u8], n: usize, run: &[u8], packet: PacketAnswer, mz: f64) -> usize
+fn put_packet_noise(out: &mut [u8], n: usize, run: &[u8], packet: Result<ScanDataPacket, Refusal>, mz: f64) -> usize
     ensures { result ≤ length out.new }
 {
     match packet {
-        PacketAnswer::Refused(refusal) => answer::refused(out, n, refusal),
-        PacketAnswer::Packet(p) => put_noise(out, n, packet_noise::noise_at(run, p, mz)),
+        Err(refusal) => answer::refused(out, n, refusal),
+        Ok(p) => put_noise(out, n, packet_noise::noise_at(run, p, mz)),
     }
 }
 
@@ -156,17 +157,17 @@ fn packet_noise(rest: &[u8], data: &mut [u8], out: &mut [u8], n: usize) -> usize
 // Labels for the peaks of a packet, whose masses stand at the front of a slice.
 fn label(
     run: &[u8],
-    packet: PacketAnswer,
+    packet: Result<ScanDataPacket, Refusal>,
     masses: &[u64],
     flags: &mut [u8],
     noises: &mut [u32],
     baselines: &mut [u32],
-) -> CountAnswer
+) -> Result<u64, Refusal>
     requires { 64 ≤ length masses.now }
 {
     match packet {
-        PacketAnswer::Refused(refusal) => CountAnswer::Refused(refusal),
-        PacketAnswer::Packet(p) => {
+        Err(refusal) => Err(refusal),
+        Ok(p) => {
             // No packet with more of them was read.
             let k = (p.peaks % 65) as usize;
             label_packet_peaks(run, p, &masses[0..k], flags, noises, baselines)

@@ -6,11 +6,12 @@ ghost use Rattle.probe_text.specs.Held.{held};
 
 use packet_full::read_packet;
 use packet_profile::Profile;
-use packet_record::{PacketAnswer, PacketProfile, ScanDataPacket};
+use packet_record::ScanDataPacket;
 use packet_skipping::read_skip_profile;
 use probe_packets::put_header;
 use probe_text::request::{Lengths, U64};
 use probe_text::{Answered, answer, lent, request};
+use refusal::Refusal;
 
 fn put_axis(out: &mut [u8], n: usize, p: Profile) -> usize
     ensures { result ≤ length out.new }
@@ -21,12 +22,12 @@ fn put_axis(out: &mut [u8], n: usize, p: Profile) -> usize
     answer::number(out, n, p.nbins as u64)
 }
 
-fn put_profile(out: &mut [u8], n: usize, profile: PacketProfile) -> usize
+fn put_profile(out: &mut [u8], n: usize, profile: Option<Profile>) -> usize
     ensures { result ≤ length out.new }
 {
     match profile {
-        PacketProfile::Absent => answer::put(out, n, b" -"),
-        PacketProfile::Present(p) => put_axis(out, n, p),
+        None => answer::put(out, n, b" -"),
+        Some(p) => put_axis(out, n, p),
     }
 }
 
@@ -64,12 +65,12 @@ fn put_packet(out: &mut [u8], n: usize, run: &[u8], p: ScanDataPacket) -> usize
     answer::bytes(out, n, nodes_of(run, p.nodes_at, p.noise_nodes))
 }
 
-fn put_answer(out: &mut [u8], n: usize, run: &[u8], answer: PacketAnswer) -> usize
+fn put_answer(out: &mut [u8], n: usize, run: &[u8], answer: Result<ScanDataPacket, Refusal>) -> usize
     ensures { result ≤ length out.new }
 {
     match answer {
-        PacketAnswer::Packet(p) => put_packet(out, n, run, p),
-        PacketAnswer::Refused(refusal) => answer::refused(out, n, refusal),
+        Ok(p) => put_packet(out, n, run, p),
+        Err(refusal) => answer::refused(out, n, refusal),
     }
 }
 

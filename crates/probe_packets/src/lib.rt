@@ -4,12 +4,12 @@
 ghost use Rattle.std.specs.Prelude.{◌≤◌, length};
 ghost use Rattle.probe_text.specs.Held.{held};
 
-use packet_header::{HeaderAnswer, PacketHeader};
+use packet_header::PacketHeader;
 use packet_labels::Labels;
 use packet_peak_list::PeakList;
 use packet_places::find_places as find_packet;
 use packet_profile::Profile;
-use packet_record::{PacketPlaces, PacketPlacesAnswer, PacketProfile};
+use packet_record::PacketPlaces;
 use probe_text::request::U64;
 use probe_text::{Answered, answer, request};
 
@@ -43,8 +43,8 @@ fn packet_header(rest: &[u8], data: &mut [u8], out: &mut [u8], n: usize) -> usiz
     }
     let run = request::front(data, count.value);
     match PacketHeader::read(run, place.value) {
-        HeaderAnswer::Header(h) => put_header(out, n, h),
-        HeaderAnswer::Refused(refusal) => answer::refused(out, n, refusal),
+        Ok(h) => put_header(out, n, h),
+        Err(refusal) => answer::refused(out, n, refusal),
     }
 }
 
@@ -56,12 +56,12 @@ fn put_profile(out: &mut [u8], n: usize, p: Profile) -> usize
     answer::number(out, n, p.points)
 }
 
-fn put_packet_profile(out: &mut [u8], n: usize, profile: PacketProfile) -> usize
+fn put_packet_profile(out: &mut [u8], n: usize, profile: Option<Profile>) -> usize
     ensures { result ≤ length out.new }
 {
     match profile {
-        PacketProfile::Absent => answer::put(out, n, b" -"),
-        PacketProfile::Present(p) => put_profile(out, n, p),
+        None => answer::put(out, n, b" -"),
+        Some(p) => put_profile(out, n, p),
     }
 }
 
@@ -106,8 +106,8 @@ fn find_places(rest: &[u8], data: &mut [u8], out: &mut [u8], n: usize) -> usize
         return answer::bad(out, n);
     }
     match find_packet(request::front(data, count.value), place.value) {
-        PacketPlacesAnswer::Refused(refusal) => answer::refused(out, n, refusal),
-        PacketPlacesAnswer::Places(places) => put_places(out, n, places),
+        Err(refusal) => answer::refused(out, n, refusal),
+        Ok(places) => put_places(out, n, places),
     }
 }
 

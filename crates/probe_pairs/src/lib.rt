@@ -4,11 +4,10 @@
 ghost use Rattle.std.specs.Prelude.{◌≤◌, length};
 ghost use Rattle.probe_text.specs.Held.{held};
 
-use packet_profile::{Profile, ProfileAnswer};
+use packet_profile::Profile;
 use pairs::to_mz_intensity;
 use probe_text::request::{Lengths, U32, U64};
 use probe_text::{Answered, answer, lent, request};
-use refusal::CountAnswer;
 
 fn freq_to_mz(rest: &[u8], data: &mut [u8], out: &mut [u8], n: usize) -> usize
     ensures { result ≤ length out.new }
@@ -35,8 +34,8 @@ fn read(
     intensities: &mut [f64],
 ) -> CountAnswer {
     match Profile::read(run, place, layout) {
-        ProfileAnswer::Profile(p, _) => to_mz_intensity(run, p, coefficients, masses, intensities),
-        ProfileAnswer::Refused(refusal) => CountAnswer::Refused(refusal),
+        Ok((p, _)) => to_mz_intensity(run, p, coefficients, masses, intensities),
+        Err(refusal) => Err(refusal),
     }
 }
 

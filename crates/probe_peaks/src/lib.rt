@@ -6,10 +6,9 @@ ghost use Rattle.std.specs.Prelude.{◌≤◌, length};
 ghost use Rattle.probe_text.specs.Held.{held};
 
 use packet_peak_list::read_peaks_only;
-use peaks::PeaksPlace;
 use probe_text::request::{U32, U64};
 use probe_text::{Answered, answer, lent, request};
-use refusal::CountAnswer;
+use refusal::Refusal;
 use srm_flat_peaks::{find_flat_peaks, read_flat_peaks};
 use srm_scan::{find_srm_peaks, read_scan_srm_v66, read_scan_srm_v66_windows};
 
@@ -148,12 +147,12 @@ fn srm_windows(rest: &[u8], data: &mut [u8], out: &mut [u8], n: usize) -> usize
     put_windows(run, start, &mut lows[0..l], &mut highs[0..h], out, n)
 }
 
-fn put_place(out: &mut [u8], n: usize, found: PeaksPlace) -> usize
+fn put_place(out: &mut [u8], n: usize, found: Result<(u64, u64), Refusal>) -> usize
     ensures { result ≤ length out.new }
 {
     match found {
-        PeaksPlace::Refused(refusal) => answer::refused(out, n, refusal),
-        PeaksPlace::At { place, count } => {
+        Err(refusal) => answer::refused(out, n, refusal),
+        Ok((place, count)) => {
             let n = answer::ok_number(out, n, place);
             answer::number(out, n, count)
         }

@@ -10,8 +10,8 @@ use packet_profile::Profile;
 use probe_text::request::{LENT, U32, U64};
 use probe_text::{Answered, answer, lent, request};
 use scan_format::ScanDataFormat;
-use scan_index::{EntryAnswer, ScanIndexEntry};
-use tray_data::{DataAnswer, PeakRow, ScanData};
+use scan_index::ScanIndexEntry;
+use tray_data::{PeakRow, ScanData};
 
 fn format_number(format: ScanDataFormat) -> u64 {
     match format {
@@ -106,8 +106,8 @@ fn entry(rest: &[u8], data: &mut [u8], out: &mut [u8], n: usize) -> usize
     }
     let run = request::front(data, count.value);
     match ScanIndexEntry::read(run, place.value, version.value as u32) {
-        EntryAnswer::Entry(e) => put_entry(out, n, e),
-        EntryAnswer::Refused(refusal) => answer::refused(out, n, refusal),
+        Ok(e) => put_entry(out, n, e),
+        Err(refusal) => answer::refused(out, n, refusal),
     }
 }
 
@@ -158,8 +158,8 @@ fn find_data(rest: &[u8], data: &mut [u8], out: &mut [u8], n: usize) -> usize
     let size = size.value as u32;
     let format = format_of(format.value);
     match tray_data::find_data(run, format, place.value, offset.value, size) {
-        DataAnswer::Refused(refusal) => answer::refused(out, n, refusal),
-        DataAnswer::Data(found) => put_data(out, n, found),
+        Err(refusal) => answer::refused(out, n, refusal),
+        Ok(found) => put_data(out, n, found),
     }
 }
 

@@ -7,16 +7,14 @@ ghost use Rattle.probe_text.specs.Held.{held};
 use probe_text::request::{LENT, Lengths, U16, U64};
 use probe_text::{Answered, answer, lent, request};
 use srm_channels::flatv66_event_channels;
-use srm_transition::{
-    EventTransitionAnswer, TransitionAnswer, flatv66_event_transition, search_v63_transition,
-};
+use srm_transition::{EventTransition, Transition, flatv66_event_transition, search_v63_transition};
 
-fn put_transition(out: &mut [u8], n: usize, answer: TransitionAnswer) -> usize
+fn put_transition(out: &mut [u8], n: usize, answer: Option<Transition>) -> usize
     ensures { result ≤ length out.new }
 {
     match answer {
-        TransitionAnswer::None => answer::none(out, n),
-        TransitionAnswer::Found(t) => {
+        None => answer::none(out, n),
+        Some(t) => {
             let n = answer::ok_number(out, n, t.place);
             let n = answer::bits64(out, n, t.q1);
             let n = answer::bits64(out, n, t.q3_width);
@@ -38,12 +36,12 @@ fn v63(rest: &[u8], data: &mut [u8], out: &mut [u8], n: usize) -> usize
     put_transition(out, n, answer)
 }
 
-fn put_event_transition(out: &mut [u8], n: usize, answer: EventTransitionAnswer) -> usize
+fn put_event_transition(out: &mut [u8], n: usize, answer: Option<EventTransition>) -> usize
     ensures { result ≤ length out.new }
 {
     match answer {
-        EventTransitionAnswer::None => answer::none(out, n),
-        EventTransitionAnswer::Found(t) => {
+        None => answer::none(out, n),
+        Some(t) => {
             let n = answer::ok_number(out, n, t.place);
             answer::bits64(out, n, t.q1)
         }

@@ -2,7 +2,7 @@
 // many it holds then. Text that finds no room is left out: who lends `out` sees by a full one that it was too short.
 ghost use Rattle.std.specs.Prelude.{◌≤◌, ◌≡◌, length};
 
-use refusal::{CountAnswer, Refusal};
+use refusal::Refusal;
 use std::io::Write;
 
 // Writes out what is held, after which nothing is. A write that fails is passed over.
@@ -155,12 +155,12 @@ pub fn refused(out: &mut [u8], n: usize, refusal: Refusal) -> usize
 }
 
 // A count or a place.
-pub fn count(out: &mut [u8], n: usize, answer: CountAnswer) -> usize
+pub fn count(out: &mut [u8], n: usize, answer: Result<u64, Refusal>) -> usize
     ensures { result ≤ length out.new }
 {
     match answer {
-        CountAnswer::Count(value) => ok_number(out, n, value),
-        CountAnswer::Refused(refusal) => refused(out, n, refusal),
+        Ok(value) => ok_number(out, n, value),
+        Err(refusal) => refused(out, n, refusal),
     }
 }
 
@@ -246,23 +246,23 @@ pub fn slice_f64(out: &mut [u8], n: usize, lent: &[f64]) -> usize
 }
 
 // How much of a name was written; the empty name stands for the Rust's `None`.
-fn written(out: &mut [u8], n: usize, name: CountAnswer) -> usize
+fn written(out: &mut [u8], n: usize, name: Result<u64, Refusal>) -> usize
     ensures { result ≤ length out.new }
 {
     match name {
-        CountAnswer::Count(count) => {
+        Ok(count) => {
             if count == 0 {
                 none(out, n)
             } else {
                 ok_number(out, n, count)
             }
         }
-        CountAnswer::Refused(refusal) => refused(out, n, refusal),
+        Err(refusal) => refused(out, n, refusal),
     }
 }
 
 // What a name's function answered, and the slice that it was lent.
-pub fn name(out: &mut [u8], n: usize, name: CountAnswer, lent: &[u8]) -> usize
+pub fn name(out: &mut [u8], n: usize, name: Result<u64, Refusal>, lent: &[u8]) -> usize
     ensures { result ≤ length out.new }
 {
     let n = written(out, n, name);

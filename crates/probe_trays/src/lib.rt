@@ -9,8 +9,9 @@ use probe_events::scan_events::EventLengths;
 use probe_scans::put_entry;
 use probe_text::request::{Lengths, U32, U64};
 use probe_text::{Answered, answer, lent, request};
+use refusal::Refusal;
 use tray::{read_scan, read_scan_from};
-use tray_scan::{Scan, ScanAnswer};
+use tray_scan::Scan;
 
 // Whether the scan's event is walked to, or its place is given.
 #[derive(Clone, Copy)]
@@ -37,12 +38,12 @@ fn put_scan(out: &mut [u8], n: usize, scan: Scan) -> usize
     answer::number(out, n, scan.pairs)
 }
 
-fn put_answer(out: &mut [u8], n: usize, answer: ScanAnswer) -> usize
+fn put_answer(out: &mut [u8], n: usize, answer: Result<Scan, Refusal>) -> usize
     ensures { result ≤ length out.new }
 {
     match answer {
-        ScanAnswer::Scan(scan) => put_scan(out, n, scan),
-        ScanAnswer::Refused(refusal) => answer::refused(out, n, refusal),
+        Ok(scan) => put_scan(out, n, scan),
+        Err(refusal) => answer::refused(out, n, refusal),
     }
 }
 

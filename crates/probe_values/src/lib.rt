@@ -17,12 +17,12 @@ enum Keyword {
     F32,
     TenThousandths,
     CountedList,
-    Code,
+    Option<u32>,
     Name,
     Symbol,
     Activation,
     ActivationName,
-    FixedSize,
+    Option<u64>,
     Unknown,
 }
 

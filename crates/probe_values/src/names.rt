@@ -1,7 +1,7 @@
 // Codes, their names and symbols: the crate `codes`.
 ghost use Rattle.std.specs.Prelude.{◌≤◌, length};
 
-use codes::{Activation, Code, Family, FixedSize, SymbolAnswer};
+use codes::{Activation, Family};
 use probe_text::request::{LENT, U8, U32};
 use probe_text::{answer, lent, request};
 
@@ -49,8 +49,8 @@ pub(crate) fn code(rest: &[u8], out: &mut [u8], n: usize) -> usize
         return answer::bad(out, n);
     }
     match codes::decode(family_of(coded.family), coded.value) {
-        Code::Known(code) => answer::ok_number(out, n, code as u64),
-        Code::None => answer::none(out, n),
+        Some(code) => answer::ok_number(out, n, code as u64),
+        None => answer::none(out, n),
     }
 }
 
@@ -62,8 +62,8 @@ pub(crate) fn symbol(rest: &[u8], out: &mut [u8], n: usize) -> usize
         return answer::bad(out, n);
     }
     match codes::symbol(family_of(coded.family), coded.value) {
-        SymbolAnswer::Symbol(symbol) => answer::ok_number(out, n, symbol as u64),
-        SymbolAnswer::None => answer::none(out, n),
+        Some(symbol) => answer::ok_number(out, n, symbol as u64),
+        None => answer::none(out, n),
     }
 }
 
@@ -153,7 +153,7 @@ pub(crate) fn fixed_size(rest: &[u8], out: &mut [u8], n: usize) -> usize
         return answer::bad(out, n);
     }
     match codes::fixed_size(value.value as u32) {
-        FixedSize::Bytes(size) => answer::ok_number(out, n, size),
-        FixedSize::None => answer::none(out, n),
+        Some(size) => answer::ok_number(out, n, size),
+        None => answer::none(out, n),
     }
 }

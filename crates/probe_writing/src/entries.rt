@@ -5,7 +5,7 @@ use crate::lent_bytes;
 use crate::lent_bytes::RECORD;
 use probe_text::request::{U16, U32, U64};
 use probe_text::{answer, request};
-use scan_index::{EntryAnswer, ScanIndexEntry};
+use scan_index::ScanIndexEntry;
 
 // The first four fields of an entry, and where they end.
 #[derive(Clone, Copy)]
@@ -105,8 +105,8 @@ fn put_again(
     ensures { result ≤ length out.new }
 {
     match ScanIndexEntry::read(run, place, version) {
-        EntryAnswer::Entry(e) => put_entry(e, version, lent, out, n),
-        EntryAnswer::Refused(refusal) => lent_bytes::put_refused(out, n, refusal, lent),
+        Ok(e) => put_entry(e, version, lent, out, n),
+        Err(refusal) => lent_bytes::put_refused(out, n, refusal, lent),
     }
 }
 

@@ -1,7 +1,7 @@
 // A scan event's record as the fields of a request, in the order of `event`'s answer.
 ghost use Rattle.std.specs.Prelude.{◌≤◌};
 
-use codes::{Activation, Code};
+use codes::Activation;
 use event_preamble::ScanEventPreamble;
 use event_record::ScanEvent;
 use event_window::Window;
@@ -15,13 +15,13 @@ const CODE: u64 = 0x1_0000_0000;
 // 0 for none, 1 to 4, and from 5 on an unknown byte.
 const ACTIVATION: u64 = 260;
 
-fn code_of(value: u64) -> Code
+fn code_of(value: u64) -> Option<u32>
     requires { value ≤ 4294967296 }
 {
     if value == 0 {
-        return Code::None;
+        return None;
     }
-    Code::Known((value - 1) as u32)
+    Some((value - 1) as u32)
 }
 
 fn activation_of(value: u64) -> Activation
@@ -40,7 +40,7 @@ fn activation_of(value: u64) -> Activation
 // A code and an activation as a field, and where it ends.
 #[derive(Clone, Copy)]
 struct CodeField {
-    code: Code,
+    code: Option<u32>,
     end: usize,
 }
 
@@ -69,10 +69,10 @@ fn activation_at(rest: &[u8], at: usize) -> ActivationField {
 // The first six of what a preamble gives, and where they end.
 #[derive(Clone, Copy)]
 struct FirstSix {
-    polarity: Code,
-    scan_mode: Code,
-    ms_power: Code,
-    scan_type: Code,
+    polarity: Option<u32>,
+    scan_mode: Option<u32>,
+    ms_power: Option<u32>,
+    scan_type: Option<u32>,
     dependent: bool,
     dia: bool,
     end: usize,

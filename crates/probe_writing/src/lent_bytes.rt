@@ -3,7 +3,7 @@ ghost use Rattle.std.specs.Prelude.{◌≡◌, ◌+◌, ◌%◌, ◌≤◌, leng
 ghost use Rattle.lists.specs.Written.{each};
 
 use probe_text::answer;
-use refusal::{CountAnswer, Refusal};
+use refusal::Refusal;
 
 // The most bytes that are lent.
 pub(crate) const RECORD: u64 = 1024;
@@ -22,7 +22,7 @@ pub(crate) fn record() -> [u8; 1024]
 }
 
 // How many bytes were written, or why none was, and the slice.
-pub(crate) fn put(out: &mut [u8], n: usize, written: CountAnswer, lent: &[u8]) -> usize
+pub(crate) fn put(out: &mut [u8], n: usize, written: Result<u64, Refusal>, lent: &[u8]) -> usize
     ensures { result ≤ length out.new }
 {
     let n = answer::count(out, n, written);

@@ -4,7 +4,7 @@ ghost use Rattle.std.specs.Prelude.{◌≤◌, length};
 use crate::lent_bytes::RECORD;
 use crate::{fields, lent_bytes};
 use event_bytes::write_before_66;
-use event_record::{EventAnswer, ScanEvent};
+use event_record::ScanEvent;
 use probe_text::request::{U32, U64};
 use probe_text::{answer, lent, request};
 
@@ -163,7 +163,7 @@ fn put_again(
         coefficients,
     );
     match answer {
-        EventAnswer::Event(read) => {
+        Ok(read) => {
             let event = read.event;
             put_event(
                 version,
@@ -177,7 +177,7 @@ fn put_again(
                 n,
             )
         }
-        EventAnswer::Refused(refusal) => lent_bytes::put_refused(out, n, refusal, lent),
+        Err(refusal) => lent_bytes::put_refused(out, n, refusal, lent),
     }
 }
 

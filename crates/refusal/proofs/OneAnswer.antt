@@ -1,4 +1,5 @@
 -- A refusal is known by its number and what it carries: a promise that is stated through `outcome_of_refusal` leaves one refusal.
+use Rattle.std.specs.Prelude.{Ok, Err, Result}
 use mathlib.Core.Path.{◌≡◌, refl, sym, ◌∙◌, ap}
 use Prim.Native.Nat.{ℕ}
 use mathlib.Core.Bool.{cond}
@@ -9,9 +10,7 @@ use Rattle.refusal.specs.declared.Part.{Part}
 use Rattle.refusal.specs.declared.Part.TheVariants.{Header, Index, Event, Data}
 use Rattle.refusal.specs.declared.Refusal.{Refusal}
 use Rattle.refusal.specs.declared.Refusal.TheVariants.{Short, UnrecognizedScanRecord, InvalidPrecursorMz, BodyTooShort, FlatWord, TooManyScans, NoSuchScan, NoRoom, MassOutOfRange, NotHeld}
-use Rattle.refusal.specs.declared.CountAnswer.{CountAnswer}
-use Rattle.refusal.specs.declared.CountAnswer.TheVariants as answer
-use Rattle.refusal.specs.Number.{part_number, number, carried, outcome_of_refusal, outcome_of_count}
+use Rattle.refusal.specs.Number.{part_number, number, carried, outcome_of_refusal, outcome_of}
 
 -- the refusal of a number and what it carries
 part_back : ℕ → Part
@@ -62,9 +61,9 @@ refusal_one a b h =
     let c : carried a ≡ carried b = cc in
     number_one a b n c
 
--- and of an answer that is one number
-pub count_one : (a b : CountAnswer) → outcome_of_count a ≡ outcome_of_count b → a ≡ b
-count_one (answer.Count x) (answer.Count y) h = cc
-count_one (answer.Count x) (answer.Refused q) h = cc
-count_one (answer.Refused r) (answer.Count y) h = cc
-count_one (answer.Refused r) (answer.Refused q) h = ap answer.Refused (refusal_one r q h)
+-- and of an answer
+pub answer_one : {A : Type 0} (a b : Result A Refusal) → outcome_of a ≡ outcome_of b → a ≡ b
+answer_one (Ok x) (Ok y) h = cc
+answer_one (Ok x) (Err q) h = cc
+answer_one (Err r) (Ok y) h = cc
+answer_one {A} (Err r) (Err q) h = ap Err (refusal_one {A = A} r q h)

@@ -5,7 +5,7 @@ ghost use Rattle.std.specs.Prelude.{◌≡◌};
 ghost use Rattle.lists.specs.Left.{LeftList};
 ghost use Rattle.scan_format.specs.Format.{format_of, flat, display_name};
 
-use refusal::CountAnswer;
+use refusal::Refusal;
 
 #[derive(Clone, Copy)]
 pub enum ScanDataFormat {
@@ -39,7 +39,7 @@ impl ScanDataFormat {
         }
     }
 
-    pub fn display_name(self, out: &mut [u8]) -> CountAnswer
+    pub fn display_name(self, out: &mut [u8]) -> Result<u64, Refusal>
         ensures { LeftList (display_name self) out.old result out.new }
     {
         match self {

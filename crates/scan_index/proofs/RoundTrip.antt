@@ -1,4 +1,5 @@
 -- L3: an entry that was written reads back, and one that was read writes back to its own bytes.
+use Rattle.std.specs.Prelude.{Result}
 use mathlib.Core.Path.{◌≡◌, refl}
 use Prim.Native.Nat.{ℕ, ◌+◌, ◌-◌, ◌^◌, ◌≤◌}
 use native.Mathlib.Omega.{arith}
@@ -8,8 +9,8 @@ use lib.Dec.{leb, ltb}
 use lib.ListN.{length, drop}
 use borrow.Author.Tests.{le-leb, leb-true, lt-ltb, ltb-true}
 use Rattle.refusal.specs.Outcome.{ok}
-use Rattle.refusal.specs.Number.{outcome_of_count}
-use Rattle.refusal.specs.declared.CountAnswer.{CountAnswer}
+use Rattle.refusal.specs.Number.{outcome_of}
+use Rattle.refusal.specs.declared.Refusal.{Refusal}
 use Rattle.lists.specs.Left.{LeftListBy}
 use Rattle.lists.proofs.Cases.{false_not_true}
 use Rattle.lists.proofs.Left.{wrote}
@@ -79,7 +80,7 @@ offset_held false true e h = lt-ltb _ _ h.0
 offset_held false false e h = lt-ltb _ _ h.0
 
 -- What a call wrote that was not refused reads back, wherever the slice stands in a run and whatever follows it
-pub entry_reads_back : (version : ℕ) (e : ScanIndexEntry) → Typed e → (xs ys : List ℕ) (r : CountAnswer) (n : ℕ) → LeftListBy (write_entry version e) xs r ys → outcome_of_count r ≡ ok n
+pub entry_reads_back : (version : ℕ) (e : ScanIndexEntry) → Typed e → (xs ys : List ℕ) (r : Result ℕ Refusal) (n : ℕ) → LeftListBy (write_entry version e) xs r ys → outcome_of r ≡ ok n
     → (run : List ℕ) (at : ℕ) (more : List ℕ) → drop at run ≡ ys ++ more → read_entry version at run ≡ ok e
 unfolding write_entry read_entry outcome
 entry_reads_back version e t xs ys r n l h run at more there =

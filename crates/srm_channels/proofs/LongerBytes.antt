@@ -1,4 +1,5 @@
 -- The channel list of longer bytes; and the fewest bytes that can hold a channel.
+use Rattle.std.specs.Prelude.{Ok, Err, Result}
 use mathlib.Core.Path.{◌≡◌, sym, ◌∙◌}
 use mathlib.Core.Logic.{◌⊎◌, inl, inr, ⊎_elim}
 use mathlib.Core.Bool.{Bool, true, false}
@@ -7,11 +8,10 @@ use Prim.Native.Nat.{ℕ, ◌+◌, ◌-◌, ◌≤◌, ◌<◌}
 use native.Mathlib.Omega.{arith}
 use lib.ListN.{length, length-append, length-map}
 use borrow.Author.Tests.{le-leb}
-use Rattle.refusal.specs.Number.{outcome_of_count}
+use Rattle.refusal.specs.Number.{outcome_of}
 use Rattle.refusal.specs.declared.Refusal.TheVariants.{NoRoom}
-use Rattle.refusal.specs.declared.CountAnswer.{CountAnswer}
-use Rattle.refusal.specs.declared.CountAnswer.TheVariants.{Count, Refused}
-use Rattle.refusal.proofs.OneAnswer.{count_one}
+use Rattle.refusal.proofs.OneAnswer.{answer_one}
+use Rattle.refusal.specs.declared.Refusal.{Refusal}
 use Rattle.lists.specs.Left.{after, fits, lengths, lists_if_fit, LeftLists}
 use Rattle.lists.proofs.Left.{fits_true}
 use Rattle.lists.proofs.Cases.{bool_cases, false_not_true}
@@ -49,13 +49,13 @@ module _ (events : List ℕ) (xs : List (List ℕ)) where
   Fits s = fits (lengths (channel_lists (channels_in events s))) (lengths xs)
 
   -- an answer, by what fits
-  answers : (s : List ℕ) (r : CountAnswer) (ys : List (List ℕ)) → LeftLists (channel_list events s) xs (outcome_of_count r) ys
+  answers : (s : List ℕ) (r : Result ℕ Refusal) (ys : List (List ℕ)) → LeftLists (channel_list events s) xs (outcome_of r) ys
       → ListAnswered xs (channels_in events s) r ys ⊎ ListRefused xs (channels_in events s) r ys
   unfolding after channel_list lists_if_fit
   answers s r ys m =
       ⊎_elim
-      (λ (f : Fits s ≡ true). let o = rw f at m in inl (f, count_one r (Count (length (channels_in events s))) o.answered, o.stands))
-      (λ (f : Fits s ≡ false). let o = rw f at m in inr (f, count_one r (Refused NoRoom) o.answered, o.stands))
+      (λ (f : Fits s ≡ true). let o = rw f at m in inl (f, answer_one r (Ok (length (channels_in events s))) o.answered, o.stands))
+      (λ (f : Fits s ≡ false). let o = rw f at m in inr (f, answer_one r (Err NoRoom) o.answered, o.stands))
       (bool_cases (Fits s))
 
   fits_before : (s t : List ℕ) → Fits (s ++ t) ≡ true → Fits s ≡ true
@@ -64,19 +64,19 @@ module _ (events : List ℕ) (xs : List (List ℕ)) where
       let few : length (channels_in events s) ≤ length (channels_in events (s ++ t)) = rw (l.1, length-append) (omega arith) in
       simp length-map (fewer_fit (length (channels_in events s)) (length (channels_in events (s ++ t))) few (lengths xs) (simp length-map at h))
 
-  stays_refused : (s t : List ℕ) (q : CountAnswer) (ys zs : List (List ℕ)) → LeftLists (channel_list events s) xs (outcome_of_count (Refused NoRoom)) ys
-      → LeftLists (channel_list events (s ++ t)) xs (outcome_of_count q) zs → ListRefused xs (channels_in events (s ++ t)) q zs
+  stays_refused : (s t : List ℕ) (q : Result ℕ Refusal) (ys zs : List (List ℕ)) → LeftLists (channel_list events s) xs (outcome_of (Err NoRoom)) ys
+      → LeftLists (channel_list events (s ++ t)) xs (outcome_of q) zs → ListRefused xs (channels_in events (s ++ t)) q zs
   stays_refused s t q ys zs m l =
       ⊎_elim
       (λ b.
       ⊎_elim
-      (λ a. let e : Refused NoRoom ≡ Count (length (channels_in events s)) = a.1 in let z : ◌≡◌ {A = ℕ} 0 1 = cc in absurd (omega arith))
+      (λ a. let e : Err NoRoom ≡ Ok (length (channels_in events s)) = a.1 in let z : ◌≡◌ {A = ℕ} 0 1 = cc in absurd (omega arith))
       (λ a. false_not_true (sym a.0 ∙ fits_before s t b.0))
-      (answers s (Refused NoRoom) ys m))
+      (answers s (Err NoRoom) ys m))
       (λ b. b)
       (answers (s ++ t) q zs l)
 
-  pub channels_on_longer_bytes : ListOnLongerBytes xs (channels_in events) (λ s r ys. LeftLists (channel_list events s) xs (outcome_of_count r) ys)
+  pub channels_on_longer_bytes : ListOnLongerBytes xs (channels_in events) (λ s r ys. LeftLists (channel_list events s) xs (outcome_of r) ys)
   channels_on_longer_bytes = record { extends = channels_longer events; answers = answers; refused = stays_refused }
 
 pub channels_fewest : (events s : List ℕ) → length s < 73 → channels_in events s ≡ []

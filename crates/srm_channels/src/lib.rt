@@ -3,7 +3,7 @@
 #![tactic(auto)]
 
 ghost use Rattle.std.specs.Prelude.{◌≡◌, [], ◌∷◌, map, ◌+◌, ◌-◌, ◌≤◌, ◌<◌, length};
-ghost use Rattle.refusal.specs.Number.{outcome_of_count};
+ghost use Rattle.refusal.specs.Number.{outcome_of};
 ghost use Rattle.lists.specs.Written.{over};
 ghost use Rattle.lists.specs.Left.{LeftLists};
 ghost use Rattle.parser.specs.Parser.{word_at};
@@ -11,7 +11,7 @@ ghost use Rattle.srm_channels.specs.Channels.{is_event, from_up_to, channel_test
 
 use lists::holds;
 use reader::{remaining, u32_at, u64_at};
-use refusal::{CountAnswer, Refusal};
+use refusal::Refusal;
 use srm_transition::{f64_at, narrow_window};
 
 // An event's number, and the bits of two f64 numbers.
@@ -128,9 +128,9 @@ pub fn flatv66_event_channels(
     channel_events: &mut [u16],
     q1: &mut [u64],
     collision_energy: &mut [u64],
-) -> CountAnswer
+) -> Result<u64, Refusal>
     ensures { LeftLists (channel_list events.now «data».now) (channel_events.old ∷ q1.old ∷ collision_energy.old ∷ [])
-        (outcome_of_count result) (channel_events.new ∷ q1.new ∷ collision_energy.new ∷ []) }
+        (outcome_of result) (channel_events.new ∷ q1.new ∷ collision_energy.new ∷ []) }
 {
     let count = count_channels(data, events);
     let n = count as u64;
@@ -144,7 +144,7 @@ pub fn flatv66_event_channels(
         ),
     ) {
         write_channels(data, events, channel_events, q1, collision_energy);
-        return CountAnswer::Count(n);
+        return Ok(n);
     }
-    CountAnswer::Refused(Refusal::NoRoom)
+    Err(Refusal::NoRoom)
 }

@@ -7,15 +7,15 @@ use mathlib.Core.List.{List, []}
 use lib.Dec.{leb, ltb, lit≤}
 use lib.ListN.{length}
 use Rattle.refusal.specs.Outcome.{Outcome, ok}
+use Rattle.refusal.proofs.OneAnswer.{answer_one}
 use Rattle.parser.specs.Parser.{Parser, done, seek, saturating_add}
 use Rattle.parser.specs.LongerBytes.{OnLongerBytes, PrefixProperty, Names, Completes}
 use Rattle.parser.proofs.Completion.{Bounded, extent, bounded_sized, bounded_bind, bounded_more, invariant_any}
 use Rattle.parser.proofs.Calls.{not_truncated_pairs, NotTruncated}
 use Rattle.peaks.proofs.OnePart.{call_prefix, call_names, call_completes, call_longer, pairs_longer}
-use Rattle.refusal.specs.Number.{outcome_of_count}
+use Rattle.refusal.specs.Number.{outcome_of}
 use Rattle.lists.specs.Left.{pairs_if_fit, LeftPairs}
-use Rattle.peaks.specs.Peaks.{Peak, outcome_of_place}
-use Rattle.peaks.proofs.OneAnswer.{place_answer_one}
+use Rattle.peaks.specs.Peaks.{Peak}
 use Rattle.srm_flat_peaks.specs.Flat.{Attempt, accepted, passed_over, looks_valid, peaks_from, attempt, or_else, attempts, flat_peaks, of_accepted, read_flat_peaks, find_flat_peaks}
 use Rattle.srm_flat_peaks.proofs.Attempts.{peaks_of, peaks_sized}
 
@@ -107,12 +107,12 @@ module _ (place cum_end data_size : ℕ) where
     unfolding find_flat_peaks
     find_completes = call_completes 4 end parser bounded placed placed_done
 
-    pub find_longer : OnLongerBytes outcome_of_place (λ s r (_ : Unit {0}). outcome_of_place r ≡ find_flat_peaks place cum_end data_size s) (λ q. q ≡ 4) (λ _ _. end < 2 ^ 62)
+    pub find_longer : OnLongerBytes outcome_of (λ s r (_ : Unit {0}). outcome_of r ≡ find_flat_peaks place cum_end data_size s) (λ q. q ≡ 4) (λ _ _. end < 2 ^ 62)
     unfolding find_flat_peaks
-    find_longer = call_longer 4 end parser bounded outcome_of_place place_answer_one placed placed_done
+    find_longer = call_longer 4 end parser bounded outcome_of answer_one placed placed_done
 
     pub flat_longer : (mz abundance : List ℕ)
-        → OnLongerBytes outcome_of_count (λ s r (ys : List ℕ × List ℕ). LeftPairs (λ m a. read_flat_peaks m a place cum_end data_size s) mz abundance r ys.0 ys.1) (λ q. q ≡ 4)
+        → OnLongerBytes outcome_of (λ s r (ys : List ℕ × List ℕ). LeftPairs (λ m a. read_flat_peaks m a place cum_end data_size s) mz abundance r ys.0 ys.1) (λ q. q ≡ 4)
         (λ _ _. end < 2 ^ 62)
     unfolding read_flat_peaks
     flat_longer = pairs_longer 4 end parser bounded fitted fitted_done

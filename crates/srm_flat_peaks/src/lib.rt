@@ -5,24 +5,16 @@
 ghost use Rattle.std.specs.Prelude.{◌≡◌, ◌<◌};
 ghost use Rattle.std.specs.Float.{binary32};
 ghost use Rattle.std.specs.Float.Ieee.{of_bits};
+ghost use Rattle.refusal.specs.Number.{outcome_of};
 ghost use Rattle.parser.specs.Parser.{parse};
 ghost use Rattle.lists.specs.Left.{LeftPairs};
-ghost use Rattle.peaks.specs.Peaks.{outcome_of_place};
 ghost use Rattle.srm_flat_peaks.specs.Flat.{is_plausible, attempt, attempts, read_flat_peaks, find_flat_peaks};
 ghost use Rattle.srm_flat_peaks.specs.Internal.{attempt_answer};
 
 use float_bits::widened;
-use peaks::{PeaksPlace, write_peaks};
+use peaks::write_peaks;
 use reader::{remaining, saturating_add, saturating_sub, u32_at};
-use refusal::{CountAnswer, Part, Refusal};
-
-// What an attempt comes to.
-#[derive(Clone, Copy)]
-enum AttemptAnswer {
-    Accepted { place: u64, count: u64 },
-    PassedOver,
-    RanOut,
-}
+use refusal::{Part, Refusal};
 
 // Whether an f32 is a plausible m/z: zero, or between 10 and 10,000, both excluded.
 fn is_plausible(bits: u32) -> bool
@@ -32,55 +24,59 @@ fn is_plausible(bits: u32) -> bool
     mz == 0.0 || (mz > 10.0 && mz < 10000.0)
 }
 
-// An attempt at data_size - subtract peaks, of a record that ends at `end`. Peaks that are there are accepted by the first.
-fn attempt_at(run: &[u8], end: u64, cum_end: u64, data_size: u32, subtract: u32) -> AttemptAnswer
+// An attempt at data_size - subtract peaks, of a record that ends at `end`: the place and the count of those that are accepted, by the
+// first of them, or none where they are passed over.
+fn attempt_at(
+    run: &[u8],
+    end: u64,
+    cum_end: u64,
+    data_size: u32,
+    subtract: u32,
+) -> Result<Option<(u64, u64)>, Refusal>
     ensures { result ≡ attempt_answer (parse (attempt end cum_end data_size subtract) run.now end) }
 {
     if data_size <= subtract {
-        return AttemptAnswer::PassedOver;
+        return Ok(None);
     }
     let count = (data_size - subtract) as u64;
     let section = count * 9;
     if section > cum_end {
-        return AttemptAnswer::PassedOver;
+        return Ok(None);
     }
     let place = saturating_sub(end, section);
     if count * 8 > remaining(run, place) {
-        return AttemptAnswer::RanOut;
+        return Err(Refusal::Short(Part::Data));
     }
     if is_plausible(u32_at(run, place)) {
-        return AttemptAnswer::Accepted { place, count };
+        return Ok(Some((place, count)));
     }
-    AttemptAnswer::PassedOver
+    Ok(None)
 }
 
 // Both attempts. The second is made where the first was passed over, not where it ran out.
-fn attempts_at(run: &[u8], end: u64, cum_end: u64, data_size: u32) -> AttemptAnswer
+fn attempts_at(
+    run: &[u8],
+    end: u64,
+    cum_end: u64,
+    data_size: u32,
+) -> Result<Option<(u64, u64)>, Refusal>
     ensures { result ≡ attempt_answer (parse (attempts end cum_end data_size) run.now end) }
 {
-    match attempt_at(run, end, cum_end, data_size, 1) {
-        AttemptAnswer::Accepted { place, count } => AttemptAnswer::Accepted { place, count },
-        AttemptAnswer::RanOut => AttemptAnswer::RanOut,
-        AttemptAnswer::PassedOver => attempt_at(run, end, cum_end, data_size, 2),
+    match attempt_at(run, end, cum_end, data_size, 1)? {
+        Some(found) => Ok(Some(found)),
+        None => attempt_at(run, end, cum_end, data_size, 2),
     }
 }
 
 // The peaks of a record, found and not handed out. Each takes 8 bytes.
-pub fn find_flat_peaks(run: &[u8], data: u64, cum_end: u64, data_size: u32) -> PeaksPlace
-    ensures { outcome_of_place result ≡ find_flat_peaks «data» cum_end data_size run.now }
+pub fn find_flat_peaks(run: &[u8], data: u64, cum_end: u64, data_size: u32) -> Result<(u64, u64), Refusal>
+    ensures { outcome_of result ≡ find_flat_peaks «data» cum_end data_size run.now }
 {
     let end = saturating_add(data, cum_end);
     if data_size <= 1 {
-        return PeaksPlace::At {
-            place: end,
-            count: 0,
-        };
+        return Ok((end, 0));
     }
-    match attempts_at(run, end, cum_end, data_size) {
-        AttemptAnswer::Accepted { place, count } => PeaksPlace::At { place, count },
-        AttemptAnswer::PassedOver => PeaksPlace::Refused(Refusal::UnrecognizedScanRecord),
-        AttemptAnswer::RanOut => PeaksPlace::Refused(Refusal::Short(Part::Data)),
-    }
+    attempts_at(run, end, cum_end, data_size)?.ok_or(Refusal::UnrecognizedScanRecord)
 }
 
 pub fn read_flat_peaks(
@@ -90,11 +86,9 @@ pub fn read_flat_peaks(
     data_size: u32,
     mz: &mut [u64],
     abundance: &mut [u32],
-) -> CountAnswer
+) -> Result<u64, Refusal>
     ensures { LeftPairs (λ m a. read_flat_peaks m a «data» cum_end data_size run.now) mz.old abundance.old result mz.new abundance.new }
 {
-    match find_flat_peaks(run, data, cum_end, data_size) {
-        PeaksPlace::Refused(r) => CountAnswer::Refused(r),
-        PeaksPlace::At { place, count } => write_peaks(run, place, 8, count, false, mz, abundance),
-    }
+    let (place, count) = find_flat_peaks(run, data, cum_end, data_size)?;
+write_peaks(run, place, 8, count, false, mz, abundance)
 }

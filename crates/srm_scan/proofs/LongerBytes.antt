@@ -8,16 +8,16 @@ use mathlib.Core.List.{List, []}
 use lib.Dec.{eqb, lit≤}
 use lib.ListN.{length}
 use Rattle.refusal.specs.Outcome.{Outcome, ok}
+use Rattle.refusal.proofs.OneAnswer.{answer_one}
 use Rattle.parser.specs.Parser.{Parser, done, skip, ◌>>◌, saturating_add}
 use Rattle.parser.specs.Internal.{Sized}
 use Rattle.parser.specs.LongerBytes.{OnLongerBytes, PrefixProperty, Names, Completes}
 use Rattle.parser.proofs.Completion.{Bounded, extent, extent_sized, bounded_sized, bounded_word, bounded_more}
 use Rattle.parser.proofs.Calls.{not_truncated_pairs}
 use Rattle.peaks.proofs.OnePart.{call_prefix, call_names, call_completes, call_longer, pairs_longer}
-use Rattle.refusal.specs.Number.{outcome_of_count}
+use Rattle.refusal.specs.Number.{outcome_of}
 use Rattle.lists.specs.Left.{pairs_if_fit, LeftPairs}
-use Rattle.peaks.specs.Peaks.{Peak, outcome_of_place}
-use Rattle.peaks.proofs.OneAnswer.{place_answer_one}
+use Rattle.peaks.specs.Peaks.{Peak}
 use Rattle.srm_scan.specs.Scan.{scan, peaks, read_srm_peaks, find_srm_peaks, windows, read_srm_windows}
 use Rattle.srm_scan.proofs.Tables.{skipped_sized, peaks_sized, windows_sized}
 
@@ -66,16 +66,16 @@ module _ (place offset : ℕ) where
   unfolding find_srm_peaks
   find_completes = call_completes 4 at (scan peaks) (λ _. peaks_bounded) placed (λ _. tt)
 
-  pub find_longer : OnLongerBytes outcome_of_place (λ s r (_ : Unit {0}). outcome_of_place r ≡ find_srm_peaks place offset s) (λ q. q ≡ 4) (λ _ _. at < 2 ^ 62)
+  pub find_longer : OnLongerBytes outcome_of (λ s r (_ : Unit {0}). outcome_of r ≡ find_srm_peaks place offset s) (λ q. q ≡ 4) (λ _ _. at < 2 ^ 62)
   unfolding find_srm_peaks
-  find_longer = call_longer 4 at (scan peaks) (λ _. peaks_bounded) outcome_of_place place_answer_one placed (λ _. tt)
+  find_longer = call_longer 4 at (scan peaks) (λ _. peaks_bounded) outcome_of answer_one placed (λ _. tt)
 
   pub srm_longer : (mz abundance : List ℕ)
-      → OnLongerBytes outcome_of_count (λ s r (ys : List ℕ × List ℕ). LeftPairs (λ m a. read_srm_peaks m a place offset s) mz abundance r ys.0 ys.1) (λ q. q ≡ 4) (λ _ _. at < 2 ^ 62)
+      → OnLongerBytes outcome_of (λ s r (ys : List ℕ × List ℕ). LeftPairs (λ m a. read_srm_peaks m a place offset s) mz abundance r ys.0 ys.1) (λ q. q ≡ 4) (λ _ _. at < 2 ^ 62)
   unfolding read_srm_peaks
   srm_longer = pairs_longer 4 at (scan peaks) (λ _. peaks_bounded) pairs_if_fit not_truncated_pairs
 
   pub windows_longer : (low high : List ℕ)
-      → OnLongerBytes outcome_of_count (λ s r (ys : List ℕ × List ℕ). LeftPairs (λ l h. read_srm_windows l h place offset s) low high r ys.0 ys.1) (λ q. q ≡ 4) (λ _ _. at < 2 ^ 62)
+      → OnLongerBytes outcome_of (λ s r (ys : List ℕ × List ℕ). LeftPairs (λ l h. read_srm_windows l h place offset s) low high r ys.0 ys.1) (λ q. q ≡ 4) (λ _ _. at < 2 ^ 62)
   unfolding read_srm_windows
   windows_longer = pairs_longer 4 at (scan windows) (λ _. windows_bounded) pairs_if_fit not_truncated_pairs

@@ -3,48 +3,42 @@
 #![tactic(auto)]
 
 ghost use Rattle.std.specs.Prelude.{◌≡◌, ◌+◌, ◌≤◌, length};
-ghost use Rattle.refusal.specs.Number.{outcome_of_count};
+ghost use Rattle.refusal.specs.Number.{outcome_of};
 ghost use Rattle.lists.specs.Left.{pairs_if_fit, LeftPairs};
-ghost use Rattle.peaks.specs.Peaks.{outcome_of_place};
 ghost use Rattle.srm_scan.specs.Scan.{read_srm_peaks, find_srm_peaks, read_srm_windows};
 ghost use Rattle.srm_scan.specs.Internal.{channels, windows_at};
 
 use lists::holds;
-use peaks::{PeaksPlace, write_peaks};
+use peaks::write_peaks;
 use reader::{copy_u32s, remaining, saturating_add, u32_at};
-use refusal::{CountAnswer, Part, Refusal};
+use refusal::{Part, Refusal};
 
 // The channels of the scan at a place, whose table takes `size` bytes for each. Their count is below 2^32, so no product wraps,
 // and one test judges all that follows it.
-fn count_channels(run: &[u8], at: u64, size: u64) -> CountAnswer
+fn count_channels(run: &[u8], at: u64, size: u64) -> Result<u64, Refusal>
     requires { size ≤ 20 }
-    ensures { outcome_of_count result ≡ channels size run.now at }
+    ensures { outcome_of result ≡ channels size run.now at }
 {
     if 4 <= remaining(run, at) {
         let n = u32_at(run, at) as u64;
         if n == 0 {
-            return CountAnswer::Count(0);
+            return Ok(0);
         }
         let all = 28 + n * size;
         if all <= remaining(run, at + 4) {
-            return CountAnswer::Count(n);
+            return Ok(n);
         }
     }
-    CountAnswer::Refused(Refusal::Short(Part::Data))
+    Err(Refusal::Short(Part::Data))
 }
 
 // The peaks of a scan, found and not handed out. Each m/z stands 12 bytes after the one before, its abundance right after it.
-pub fn find_srm_peaks(run: &[u8], data: u64, offset: u64) -> PeaksPlace
-    ensures { outcome_of_place result ≡ find_srm_peaks «data» offset run.now }
+pub fn find_srm_peaks(run: &[u8], data: u64, offset: u64) -> Result<(u64, u64), Refusal>
+    ensures { outcome_of result ≡ find_srm_peaks «data» offset run.now }
 {
     let at = saturating_add(data, offset);
-    match count_channels(run, at, 20) {
-        CountAnswer::Refused(r) => PeaksPlace::Refused(r),
-        CountAnswer::Count(n) => PeaksPlace::At {
-            place: at + 36 + n * 8,
-            count: n,
-        },
-    }
+    let n = count_channels(run, at, 20)?;
+    Ok((at + 36 + n * 8, n))
 }
 
 pub fn read_scan_srm_v66(
@@ -53,26 +47,24 @@ pub fn read_scan_srm_v66(
     offset: u64,
     mz: &mut [u64],
     abundance: &mut [u32],
-) -> CountAnswer
+) -> Result<u64, Refusal>
     ensures { LeftPairs (λ m a. read_srm_peaks m a «data» offset run.now) mz.old abundance.old result mz.new abundance.new }
 {
-    match find_srm_peaks(run, data, offset) {
-        PeaksPlace::Refused(r) => CountAnswer::Refused(r),
-        PeaksPlace::At { place, count } => write_peaks(run, place, 12, count, false, mz, abundance),
-    }
+    let (place, count) = find_srm_peaks(run, data, offset)?;
+write_peaks(run, place, 12, count, false, mz, abundance)
 }
 
 // n windows, where the slices hold them.
-fn write_windows(run: &[u8], at: u64, n: u64, low: &mut [u32], high: &mut [u32]) -> CountAnswer
+fn write_windows(run: &[u8], at: u64, n: u64, low: &mut [u32], high: &mut [u32]) -> Result<u64, Refusal>
     requires { at ≤ length run.now + 28 }
     ensures { LeftPairs (λ l h. pairs_if_fit l h (windows_at run.now at n)) low.old high.old result low.new high.new }
 {
     if holds(n, low.len() as u64, holds(n, high.len() as u64, true)) {
-        copy_u32s(run, at, 8, n, low);
-        copy_u32s(run, at + 4, 8, n, high);
-        return CountAnswer::Count(n);
+        let _ = copy_u32s(run, at, 8, n, low);
+        let _ = copy_u32s(run, at + 4, 8, n, high);
+        return Ok(n);
     }
-    CountAnswer::Refused(Refusal::NoRoom)
+    Err(Refusal::NoRoom)
 }
 
 // The window of each channel, by the bits of its two ends.
@@ -82,12 +74,10 @@ pub fn read_scan_srm_v66_windows(
     offset: u64,
     low: &mut [u32],
     high: &mut [u32],
-) -> CountAnswer
+) -> Result<u64, Refusal>
     ensures { LeftPairs (λ l h. read_srm_windows l h «data» offset run.now) low.old high.old result low.new high.new }
 {
     let at = saturating_add(data, offset);
-    match count_channels(run, at, 8) {
-        CountAnswer::Refused(r) => CountAnswer::Refused(r),
-        CountAnswer::Count(n) => write_windows(run, at + 32, n, low, high),
-    }
+    let n = count_channels(run, at, 8)?;
+write_windows(run, at + 32, n, low, high)
 }

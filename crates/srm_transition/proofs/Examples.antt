@@ -1,5 +1,6 @@
 -- By computation: 41 and 33 bytes can hold a find; the v63 search takes a distance of 0.002, a centre that is a NaN, and any
 -- centre where the target is one; the event search takes neither.
+use Rattle.std.specs.Prelude.{Some}
 use mathlib.Core.Path.{◌≡◌, refl}
 use mathlib.Core.Bool.{true, false}
 use mathlib.Core.List.{List, [], ◌∷◌, ◌++◌}
@@ -9,8 +10,6 @@ use lib.ListN.{length}
 use Rattle.lists.specs.Written.{each}
 use Rattle.srm_transition.specs.Places.{places_where}
 use Rattle.srm_transition.specs.Transition.{not_far, is_near, v63_test, search_v63_transition, event_test, flatv66_event_transition}
-use Rattle.srm_transition.specs.declared.TransitionAnswer.TheVariants.{Found}
-use Rattle.srm_transition.specs.declared.EventTransitionAnswer.TheVariants.{Found as FoundEvent}
 use Rattle.float_bits.specs.Numbers.{whole, ratio}
 
 -- Q1 50, centre 100, width 0.01, 8 bytes, energy 300, and one byte more
@@ -26,7 +25,7 @@ method =
 fewest_41 : length method ≡ 41
 fewest_41 = refl
 
-pub found_in_41 : search_v63_transition (whole 100) method ≡ Found (record { place = 8; q1 = 0x4049_0000_0000_0000; q3_width = 0x3f84_7ae1_47ae_147b; collision_energy = 0x4072_c000_0000_0000 })
+pub found_in_41 : search_v63_transition (whole 100) method ≡ Some (record { place = 8; q1 = 0x4049_0000_0000_0000; q3_width = 0x3f84_7ae1_47ae_147b; collision_energy = 0x4072_c000_0000_0000 })
 unfolding search_v63_transition places_where each v63_test of_bits of_int round sub lt le
 found_in_41 = refl
 
@@ -42,7 +41,7 @@ stream =
 fewest_33 : length stream ≡ 33
 fewest_33 = refl
 
-pub found_in_33 : flatv66_event_transition 7 (whole 100) stream ≡ FoundEvent (record { place = 24; q1 = 0x407f_4000_0000_0000 })
+pub found_in_33 : flatv66_event_transition 7 (whole 100) stream ≡ Some (record { place = 24; q1 = 0x407f_4000_0000_0000 })
 unfolding flatv66_event_transition places_where each event_test of_bits of_int round sub lt le
 found_in_33 = refl
 

@@ -1,6 +1,6 @@
 -- `search_v63_transition` and `flatv66_event_transition`: which place of a method's bytes holds a transition. Differences of
 -- places and sizes stop at 0.
-use Rattle.std.specs.Prelude.{ℕ, ◌+◌, ◌-◌, Bool, not, ◌&&◌, List, map, eqb, Float, length}
+use Rattle.std.specs.Prelude.{ℕ, ◌+◌, ◌-◌, Bool, not, ◌&&◌, List, map, eqb, Float, length, Some, None, Option}
 use Rattle.std.specs.Float.{binary64}
 use Rattle.std.specs.Float.Ieee.{sub, lt, le}
 use Rattle.std.specs.Float.Ieee.Scale.{finite}
@@ -9,11 +9,7 @@ use Rattle.parser.specs.Parser.{word_at, f64_at}
 use Rattle.lists.specs.Filter.{first_or}
 use Rattle.srm_transition.specs.Places.{places_where}
 use Rattle.srm_transition.specs.declared.Transition.{Transition}
-use Rattle.srm_transition.specs.declared.TransitionAnswer.{TransitionAnswer}
-use Rattle.srm_transition.specs.declared.TransitionAnswer.TheVariants.{None, Found}
 use Rattle.srm_transition.specs.declared.EventTransition.{EventTransition}
-use Rattle.srm_transition.specs.declared.EventTransitionAnswer.{EventTransitionAnswer}
-use Rattle.srm_transition.specs.declared.EventTransitionAnswer.TheVariants.{None as NoEvent, Found as FoundEvent}
 use Rattle.float_bits.specs.Numbers.{ratio, whole}
 
 -- a finite number from low to high, both included
@@ -36,8 +32,8 @@ abbrev pub v63_at : List ℕ → ℕ → Transition
 v63_at s j =
     record { place = j; q1 = word_at s (j - 8) 8; q3_width = word_at s (j + 8) 8; collision_energy = word_at s (j + 24) 8 }
 
-unfoldable pub search_v63_transition : Float → List ℕ → TransitionAnswer
-search_v63_transition target s = first_or None (map (λ j. Found (v63_at s j)) (places_where (v63_test target s) 8 (length s - 32)))
+unfoldable pub search_v63_transition : Float → List ℕ → Option Transition
+search_v63_transition target s = first_or None (map (λ j. Some (v63_at s j)) (places_where (v63_test target s) 8 (length s - 32)))
 
 -- a Q3 window: its upper end is above the lower one by less than 0.1
 abbrev pub narrow_window : Float → Float → Bool
@@ -62,5 +58,5 @@ event_test event hi s i =
 abbrev pub event_transition_at : List ℕ → ℕ → EventTransition
 event_transition_at s i = record { place = i; q1 = word_at s (i - 16) 8 }
 
-unfoldable pub flatv66_event_transition : ℕ → Float → List ℕ → EventTransitionAnswer
-flatv66_event_transition event hi s = first_or NoEvent (map (λ i. FoundEvent (event_transition_at s i)) (places_where (event_test event hi s) 24 (length s - 8)))
+unfoldable pub flatv66_event_transition : ℕ → Float → List ℕ → Option EventTransition
+flatv66_event_transition event hi s = first_or None (map (λ i. Some (event_transition_at s i)) (places_where (event_test event hi s) 24 (length s - 8)))

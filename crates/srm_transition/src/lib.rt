@@ -20,23 +20,11 @@ pub struct Transition {
     pub collision_energy: u64,
 }
 
-#[derive(Clone, Copy)]
-pub enum TransitionAnswer {
-    None,
-    Found(Transition),
-}
-
 // The place of the Q3 window's upper end, and the bits of Q1.
 #[derive(Clone, Copy)]
 pub struct EventTransition {
     pub place: u64,
     pub q1: u64,
-}
-
-#[derive(Clone, Copy)]
-pub enum EventTransitionAnswer {
-    None,
-    Found(EventTransition),
 }
 
 // The f64 at a place.
@@ -83,18 +71,18 @@ fn v63_at(data: &[u8], j: u64) -> Transition
     }
 }
 
-pub fn search_v63_transition(data: &[u8], q3_center_target: f64) -> TransitionAnswer
+pub fn search_v63_transition(data: &[u8], q3_center_target: f64) -> Option<Transition>
     ensures { result ≡ search_v63_transition q3_center_target «data».now }
 {
     let end = remaining(data, 32);
     let mut j: u64 = 8;
     while j < end {
         if v63_test(data, j, q3_center_target) {
-            return TransitionAnswer::Found(v63_at(data, j));
+            return Some(v63_at(data, j));
         }
         j = j + 1;
     }
-    TransitionAnswer::None
+    None
 }
 
 // A Q3 window: its upper end is above the lower one by less than 0.1.
@@ -134,19 +122,19 @@ fn event_test(data: &[u8], i: u64, event: u16, q3_hi: f64) -> bool
     is_between(f64_at(data, i - 16), 10.0, 3000.0)
 }
 
-pub fn flatv66_event_transition(data: &[u8], event: u16, q3_hi: f64) -> EventTransitionAnswer
+pub fn flatv66_event_transition(data: &[u8], event: u16, q3_hi: f64) -> Option<EventTransition>
     ensures { result ≡ flatv66_event_transition event q3_hi «data».now }
 {
     let end = remaining(data, 8);
     let mut i: u64 = 24;
     while i < end {
         if event_test(data, i, event, q3_hi) {
-            return EventTransitionAnswer::Found(EventTransition {
+            return Some(EventTransition {
                 place: i,
                 q1: u64_at(data, i - 16),
             });
         }
         i = i + 1;
     }
-    EventTransitionAnswer::None
+    None
 }

@@ -10,8 +10,8 @@ use lib.Dec.{ltb, lit<}
 use lib.Ieee.{Float}
 use lib.ListN.{length, drop}
 use Rattle.refusal.specs.Outcome.{Outcome, ok, refused, ran_out, and_then}
-use Rattle.refusal.specs.Number.{outcome_of_count}
-use Rattle.refusal.proofs.OneAnswer.{count_one}
+use Rattle.refusal.specs.Number.{outcome_of}
+use Rattle.refusal.proofs.OneAnswer.{answer_one}
 use Rattle.lists.specs.Left.{lengths, LeftListsAndPairs}
 use Rattle.parser.specs.Parser.{Parser, ◌>>◌, repeat}
 use Rattle.parser.specs.Call.{Call, outcome, single}
@@ -26,7 +26,7 @@ use Rattle.tray_header.specs.Header.{read_header}
 use Rattle.tray_header.specs.declared.TrayHeader.{TrayHeader}
 use Rattle.tray_header.proofs.Found.{Words, whole, words}
 use Rattle.tray_header.proofs.LongerBytes.{header_prefix, header_names, header_completes}
-use Rattle.tray_scan.specs.Scan.{tray_event, ScanParts, scan_parts, WrittenScan, scan_if_fits, outcome_of}
+use Rattle.tray_scan.specs.Scan.{tray_event, ScanParts, scan_parts, WrittenScan, scan_if_fits}
 use Rattle.tray_scan.proofs.LongerBytes.{OutputSlices, written_longer, PartsIn, parts_names, RunPart, DataNear, event_bounded, events_bounded, kth_bounded, scan_parts_in, scan_avoids, scan_covers, scan_not_truncated}
 use Rattle.tray.specs.Scan.{over_run, header_with, read_scan, read_scan_from, event_of, next_event}
 use Rattle.tray.proofs.Headers.{numbered, with_size, with_few}
@@ -216,9 +216,9 @@ module _ (limit number : ℕ) where
             let l = with_few limit number s k (sym i) in
             inl (refl, omega (arith, w.events), events_bounded h k w (omega arith), λ _ _. tt)))
 
-        pub place_of_longer : OnLongerBytes outcome_of_count (λ s r (_ : Unit {0}). outcome_of_count r ≡ event_of limit number k s) PlacePart (λ _ _. Unit {0})
+        pub place_of_longer : OnLongerBytes outcome_of (λ s r (_ : Unit {0}). outcome_of r ≡ event_of limit number k s) PlacePart (λ _ _. Unit {0})
         place_of_longer =
-            plain_longer outcome_of_count count_one (event_of limit number k) place_of_prefix PlacePart (λ _ _. Unit {0}) place_of_names
+            plain_longer outcome_of answer_one (event_of limit number k) place_of_prefix PlacePart (λ _ _. Unit {0}) place_of_names
             (λ q s is_bytes few _ i. place_of_completes q (place_of_names s q i) s is_bytes few i)
 
       -- ---- where the event at a place ends
@@ -242,7 +242,7 @@ module _ (limit number : ℕ) where
             (over_part _ plain end 3 (lit< tt) s is_bytes few
             (λ h i. inl (refl, near e, event_bounded h 0 (words limit s (whole limit number s (sym i)) is_bytes), λ _ _. tt)))
 
-        pub end_of_longer : OnLongerBytes outcome_of_count (λ s r (_ : Unit {0}). outcome_of_count r ≡ next_event limit number at s) PlacePart (EndNear at)
+        pub end_of_longer : OnLongerBytes outcome_of (λ s r (_ : Unit {0}). outcome_of r ≡ next_event limit number at s) PlacePart (EndNear at)
         end_of_longer =
-            plain_longer outcome_of_count count_one (next_event limit number at) end_of_prefix PlacePart (EndNear at) end_of_names
+            plain_longer outcome_of answer_one (next_event limit number at) end_of_prefix PlacePart (EndNear at) end_of_names
             (λ q s is_bytes few near i. end_of_completes q (end_of_names s q i) s is_bytes few near i)

@@ -5,11 +5,10 @@ use mathlib.Core.List.{List}
 use lib.Dec.{lit<}
 use lib.Ieee.{Float}
 use lib.ListN.{length}
-use Rattle.refusal.specs.Number.{outcome_of_count}
+use Rattle.refusal.specs.Number.{outcome_of}
 use Rattle.lists.specs.Left.{LeftListsAndPairs}
 use Rattle.parser.specs.LongerBytes.{Bytes, OnLongerBytes, PrefixProperty, Names, CompletesOn}
 use Rattle.tray_header.proofs.LongerBytes.{six}
-use Rattle.tray_scan.specs.Scan.{outcome_of}
 use Rattle.tray_scan.proofs.LongerBytes.{OutputSlices}
 use Rattle.tray.specs.Scan.{read_scan, read_scan_from, event_of, next_event}
 use Rattle.tray.proofs.AnyLimit.{ScanPart, PlacePart, ScanNear, FromNear, EndNear}
@@ -40,7 +39,7 @@ event_of_prefix k = any.place_of_prefix 4096 6 six (lit< tt) k
 pub event_of_completes : (k q : ℕ) → PlacePart q → (s : List ℕ) → Bytes s → length s < 2 ^ 62 → CompletesOn q (event_of 4096 6 k) s
 event_of_completes k = any.place_of_completes 4096 6 six (lit< tt) k
 
-pub event_of_longer : (k : ℕ) → OnLongerBytes outcome_of_count (λ s r (_ : Unit {0}). outcome_of_count r ≡ event_of 4096 6 k s) PlacePart (λ _ _. Unit {0})
+pub event_of_longer : (k : ℕ) → OnLongerBytes outcome_of (λ s r (_ : Unit {0}). outcome_of r ≡ event_of 4096 6 k s) PlacePart (λ _ _. Unit {0})
 event_of_longer k = any.place_of_longer 4096 6 six (lit< tt) k
 
 pub next_event_prefix : (at : ℕ) → PrefixProperty (next_event 4096 6 at)
@@ -49,5 +48,5 @@ next_event_prefix at = any.end_of_prefix 4096 6 six (lit< tt) at
 pub next_event_completes : (at q : ℕ) → PlacePart q → (s : List ℕ) → Bytes s → length s < 2 ^ 62 → EndNear at q s → CompletesOn q (next_event 4096 6 at) s
 next_event_completes at = any.end_of_completes 4096 6 six (lit< tt) at
 
-pub next_event_longer : (at : ℕ) → OnLongerBytes outcome_of_count (λ s r (_ : Unit {0}). outcome_of_count r ≡ next_event 4096 6 at s) PlacePart (EndNear at)
+pub next_event_longer : (at : ℕ) → OnLongerBytes outcome_of (λ s r (_ : Unit {0}). outcome_of r ≡ next_event 4096 6 at s) PlacePart (EndNear at)
 next_event_longer at = any.end_of_longer 4096 6 six (lit< tt) at

@@ -2,30 +2,25 @@
 #![tactic(auto)]
 
 ghost use Rattle.std.specs.Prelude.{◌≡◌, [], ◌∷◌};
-ghost use Rattle.refusal.specs.Number.{outcome_of_count};
+ghost use Rattle.refusal.specs.Number.{outcome_of};
 ghost use Rattle.lists.specs.Left.{LeftListsAndPairs};
-ghost use Rattle.tray_header.specs.Header.{outcome_of as outcome_of_header};
-ghost use Rattle.tray_scan.specs.Scan.{place_or_end, outcome_of};
+ghost use Rattle.tray_scan.specs.Scan.{place_or_end};
 ghost use Rattle.tray.specs.Scan.{header_with, read_scan, read_scan_from, event_of, next_event};
 
 use events::{event_end, event_place};
-use refusal::{CountAnswer, Refusal};
-use tray_header::{TrayHeaderAnswer, read_tray_header};
-use tray_scan::{ScanAnswer, scan_at};
+use refusal::Refusal;
+use tray_header::{TrayHeader, read_tray_header};
+use tray_scan::{Scan, scan_at};
 
 // The header of a tray that has a scan k.
-fn header_with(tray: &[u8], k: u32) -> TrayHeaderAnswer
-    ensures { outcome_of_header result ≡ header_with 4096 6 k tray.now }
+fn header_with(tray: &[u8], k: u32) -> Result<TrayHeader, Refusal>
+    ensures { outcome_of result ≡ header_with 4096 6 k tray.now }
 {
-    match read_tray_header(tray) {
-        TrayHeaderAnswer::Refused(r) => TrayHeaderAnswer::Refused(r),
-        TrayHeaderAnswer::Header(h) => {
-            if k < h.scans {
-                return TrayHeaderAnswer::Header(h);
+    let h = read_tray_header(tray)?;
+if k < h.scans {
+                return Ok(h);
             }
-            TrayHeaderAnswer::Refused(Refusal::NoSuchScan)
-        }
-    }
+            Err(Refusal::NoSuchScan)
 }
 
 // Scan k of a tray, whose event stands at this place of the run: who goes from scan to scan need not walk the events anew.
@@ -39,15 +34,13 @@ pub fn read_scan_from(
     coefficients: &mut [u64],
     mz: &mut [f64],
     intensity: &mut [f64],
-) -> ScanAnswer
+) -> Result<Scan, Refusal>
     ensures { LeftListsAndPairs (λ c. read_scan_from 4096 6 c k at tray.now)
         (preamble.old ∷ precursors.old ∷ energies.old ∷ coefficients.old ∷ []) mz.old intensity.old
         (outcome_of result) (preamble.new ∷ precursors.new ∷ energies.new ∷ coefficients.new ∷ []) mz.new intensity.new }
 {
-    match header_with(tray, k) {
-        TrayHeaderAnswer::Refused(r) => ScanAnswer::Refused(r),
-        TrayHeaderAnswer::Header(h) => {
-            let read = scan_at(
+    let h = header_with(tray, k)?;
+let read = scan_at(
                 &tray[32..],
                 at,
                 h,
@@ -60,46 +53,38 @@ pub fn read_scan_from(
                 intensity,
             );
             read.scan
-        }
-    }
 }
 
 // Where event k stands in the run.
-pub fn event_of(tray: &[u8], k: u32) -> CountAnswer
-    ensures { outcome_of_count result ≡ event_of 4096 6 k tray.now }
+pub fn event_of(tray: &[u8], k: u32) -> Result<u64, Refusal>
+    ensures { outcome_of result ≡ event_of 4096 6 k tray.now }
 {
-    match header_with(tray, k) {
-        TrayHeaderAnswer::Refused(r) => CountAnswer::Refused(r),
-        TrayHeaderAnswer::Header(h) => event_place(
+    let h = header_with(tray, k)?;
+event_place(
             &tray[32..],
             h.events as u64,
             k as u16,
             h.version,
             h.primary,
             h.dependent,
-        ),
-    }
+        )
 }
 
 // Where the event at a place of the run ends, and the next one starts.
-pub fn next_event(tray: &[u8], at: u64) -> CountAnswer
-    ensures { outcome_of_count result ≡ next_event 4096 6 at tray.now }
+pub fn next_event(tray: &[u8], at: u64) -> Result<u64, Refusal>
+    ensures { outcome_of result ≡ next_event 4096 6 at tray.now }
 {
-    match read_tray_header(tray) {
-        TrayHeaderAnswer::Refused(r) => CountAnswer::Refused(r),
-        TrayHeaderAnswer::Header(h) => {
-            event_end(&tray[32..], at, h.version, h.primary, h.dependent)
-        }
-    }
+    let h = read_tray_header(tray)?;
+event_end(&tray[32..], at, h.version, h.primary, h.dependent)
 }
 
 // A place to read event k at. Where there is none it is after every run, where the event runs out again, after entry k.
-fn place_or_end(found: CountAnswer) -> u64
-    ensures { result ≡ place_or_end (outcome_of_count found) }
+fn place_or_end(found: Result<u64, Refusal>) -> u64
+    ensures { result ≡ place_or_end (outcome_of found) }
 {
     match found {
-        CountAnswer::Refused(_) => u64::MAX,
-        CountAnswer::Count(at) => at,
+        Err(_) => u64::MAX,
+        Ok(at) => at,
     }
 }
 
@@ -113,7 +98,7 @@ pub fn read_scan(
     coefficients: &mut [u64],
     mz: &mut [f64],
     intensity: &mut [f64],
-) -> ScanAnswer
+) -> Result<Scan, Refusal>
     ensures { LeftListsAndPairs (λ c. read_scan 4096 6 c k tray.now)
         (preamble.old ∷ precursors.old ∷ energies.old ∷ coefficients.old ∷ []) mz.old intensity.old
         (outcome_of result) (preamble.new ∷ precursors.new ∷ energies.new ∷ coefficients.new ∷ []) mz.new intensity.new }

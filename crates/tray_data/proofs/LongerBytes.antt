@@ -3,6 +3,8 @@ use mathlib.Core.Path.{◌≡◌}
 use Prim.Native.Nat.{ℕ, ◌^◌, ◌<◌}
 use lib.Dec.{lit≤}
 use Rattle.refusal.specs.Outcome.{Outcome}
+use Rattle.refusal.specs.Number.{outcome_of}
+use Rattle.refusal.proofs.OneAnswer.{answer_one}
 use Rattle.parser.specs.Parser.{done}
 use Rattle.parser.specs.LongerBytes.{OnLongerBytes, PrefixProperty, Names, Completes}
 use Rattle.parser.proofs.Completion.{Bounded, bounded_bind, invariant_any}
@@ -22,8 +24,7 @@ use Rattle.srm_flat_peaks.proofs.LongerBytes as flat
 use Rattle.srm_scan.specs.Scan.{scan, peaks, find_srm_peaks}
 use Rattle.srm_scan.proofs.LongerBytes.{peaks_bounded}
 use Rattle.srm_scan.proofs.LongerBytes as srm
-use Rattle.tray_data.specs.Data.{Content, centroids, content_of, Finding, given, implausible, of_attempt, of_finding, data_start, scan_data, packet_data, narrow_peaks, find_data, outcome_of}
-use Rattle.tray_data.proofs.OneAnswer.{data_answer_one}
+use Rattle.tray_data.specs.Data.{Content, centroids, content_of, Finding, given, implausible, of_attempt, of_finding, data_start, scan_data, packet_data, narrow_peaks, find_data}
 
 module _ (place offset size : ℕ) where
   pub data_prefix : (format : ScanDataFormat) → PrefixProperty (find_data format place offset size)
@@ -48,7 +49,7 @@ module _ (place offset size : ℕ) where
   pub data_longer : size < 2 ^ 32 → (format : ScanDataFormat)
       → OnLongerBytes outcome_of (λ s r (_ : Unit {0}). outcome_of r ≡ find_data format place offset size s) (λ q. q ≡ 4) (λ _ _. data_start place offset < 2 ^ 62)
   data_longer h format =
-      plain_longer outcome_of data_answer_one (find_data format place offset size) (data_prefix format) (λ q. q ≡ 4) (λ _ _. data_start place offset < 2 ^ 62) (data_names format)
+      plain_longer outcome_of answer_one (find_data format place offset size) (data_prefix format) (λ q. q ≡ 4) (λ _ _. data_start place offset < 2 ^ 62) (data_names format)
       (one_part 4 (data_start place offset) (find_data format place offset size) (data_names format) (data_completes h format))
 
 -- the parser's own bound, for calls of several parts

@@ -1,16 +1,14 @@
 -- The data of a scan, by the format of its run: a packet, flat peaks or an SRM scan; and the pairs that they give.
-use Rattle.std.specs.Prelude.{ℕ, false, List, []}
+use Rattle.std.specs.Prelude.{ℕ, false, List, [], Some, None, Option}
 use Rattle.refusal.specs.Outcome.{Outcome, ok, refused, on_ok}
-use Rattle.refusal.specs.Number.{outcome_of_refusal}
 use Rattle.parser.specs.Parser.{Parser, done, ◌>>=◌, saturating_add}
 use Rattle.scan_format.specs.declared.ScanDataFormat.{ScanDataFormat}
 use Rattle.scan_format.specs.declared.ScanDataFormat.TheVariants.{PacketHeader, FlatV63, FlatV66}
 use Rattle.peaks.specs.Peaks.{Peak, peaks_at}
 use Rattle.packet_peak_list.specs.PeakList.{item_size}
 use Rattle.packet_profile.specs.Profile.{Chunk}
+use Rattle.packet_profile.specs.declared.Profile.{Profile as ProfileRecord}
 use Rattle.packet_record.specs.Packet.{OptionalProfile, absent, present}
-use Rattle.packet_record.specs.declared.PacketProfile.{PacketProfile}
-use Rattle.packet_record.specs.declared.PacketProfile.TheVariants.{Absent, Present}
 use Rattle.packet_record.specs.declared.PacketPlaces.{PacketPlaces}
 use Rattle.packet_places.specs.Packet.{packet}
 use Rattle.packet_places.specs.Places.{find_places}
@@ -20,8 +18,6 @@ use Rattle.calibration.specs.declared.Bins.{Bins}
 use Rattle.pairs.specs.Pairs.{Pair, chunks_of, bins_of, pairs_of, peak_pairs}
 use Rattle.tray_data.specs.declared.ScanData.{ScanData}
 use Rattle.tray_data.specs.declared.ScanData.TheVariants.{Profile, Peaks}
-use Rattle.tray_data.specs.declared.DataAnswer.{DataAnswer}
-use Rattle.tray_data.specs.declared.DataAnswer.TheVariants as answer
 
 -- what pairs are made of
 pub data Content : Type 0 where
@@ -63,9 +59,9 @@ pairs coefficients (profile bins chunks) = pairs_of bins coefficients chunks
 pairs coefficients (centroids ps) = peak_pairs ps
 
 -- what `find_data` answers: the same data, by their places
-abbrev pub packet_data : PacketProfile → PacketPlaces → ScanData
-packet_data Absent v = Peaks (record { at = v.list.at; stride = item_size v.list.wide; count = v.list.count; wide = v.list.wide })
-packet_data (Present p) v = Profile p
+abbrev pub packet_data : Option ProfileRecord → PacketPlaces → ScanData
+packet_data None v = Peaks (record { at = v.list.at; stride = item_size v.list.wide; count = v.list.count; wide = v.list.wide })
+packet_data (Some p) v = Profile p
 
 abbrev pub narrow_peaks : ℕ → ℕ × ℕ → ScanData
 narrow_peaks stride p = Peaks (record { at = p.0; stride = stride; count = p.1; wide = false })
@@ -84,6 +80,3 @@ abbrev pub count_of : ScanData → ℕ
 count_of (Profile p) = p.points
 count_of (Peaks w) = w.count
 
-abbrev pub outcome_of : DataAnswer → Outcome ScanData
-outcome_of (answer.Data d) = ok d
-outcome_of (answer.Refused r) = outcome_of_refusal r

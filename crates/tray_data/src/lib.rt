@@ -3,20 +3,19 @@
 #![tactic(auto)]
 
 ghost use Rattle.std.specs.Prelude.{◌≡◌};
+ghost use Rattle.refusal.specs.Number.{outcome_of};
 ghost use Rattle.lists.specs.Left.{pairs_if_fit, LeftPairs};
 ghost use Rattle.refusal.specs.Outcome.{on_ok};
-ghost use Rattle.peaks.specs.Peaks.{outcome_of_place};
 ghost use Rattle.packet_places.specs.Places.{find_places};
-ghost use Rattle.tray_data.specs.Data.{packet_data, narrow_peaks, pairs, find_data, content_at, count_of, outcome_of};
+ghost use Rattle.tray_data.specs.Data.{packet_data, narrow_peaks, pairs, find_data, content_at, count_of};
 
 use packet_peak_list::item_size;
 use packet_places::find_places;
 use packet_profile::Profile;
-use packet_record::{PacketPlaces, PacketPlacesAnswer, PacketProfile};
+use packet_record::PacketPlaces;
 use pairs::{peak_pairs, to_mz_intensity};
-use peaks::PeaksPlace;
 use reader::saturating_add;
-use refusal::{CountAnswer, Refusal};
+use refusal::Refusal;
 use scan_format::ScanDataFormat;
 use srm_flat_peaks::find_flat_peaks;
 use srm_scan::find_srm_peaks;
@@ -37,12 +36,6 @@ pub enum ScanData {
     Peaks(PeakRow),
 }
 
-#[derive(Clone, Copy)]
-pub enum DataAnswer {
-    Data(ScanData),
-    Refused(Refusal),
-}
-
 // A packet's profile, if it has one, else its peaks.
 fn packet_data(places: PacketPlaces) -> ScanData
     ensures { result ≡ packet_data places.profile places }
@@ -50,8 +43,8 @@ fn packet_data(places: PacketPlaces) -> ScanData
     let list = places.list;
     let profile = places.profile;
     match profile {
-        PacketProfile::Present(p) => ScanData::Profile(p),
-        PacketProfile::Absent => ScanData::Peaks(PeakRow {
+        Some(p) => ScanData::Profile(p),
+        None => ScanData::Peaks(PeakRow {
             at: list.at,
             stride: item_size(list.wide),
             count: list.count,
@@ -60,27 +53,23 @@ fn packet_data(places: PacketPlaces) -> ScanData
     }
 }
 
-fn narrow_peaks(found: PeaksPlace, stride: u64) -> DataAnswer
-    ensures { outcome_of result ≡ on_ok (narrow_peaks stride) (outcome_of_place found) }
+fn narrow_peaks(found: Result<(u64, u64), Refusal>, stride: u64) -> Result<ScanData, Refusal>
+    ensures { outcome_of result ≡ on_ok (narrow_peaks stride) (outcome_of found) }
 {
-    match found {
-        PeaksPlace::Refused(r) => DataAnswer::Refused(r),
-        PeaksPlace::At { place, count } => DataAnswer::Data(ScanData::Peaks(PeakRow {
+    let (place, count) = found?;
+Ok(ScanData::Peaks(PeakRow {
             at: place,
             stride,
             count,
             wide: false,
-        })),
-    }
+        }))
 }
 
-fn find_packet(run: &[u8], at: u64) -> DataAnswer
+fn find_packet(run: &[u8], at: u64) -> Result<ScanData, Refusal>
     ensures { outcome_of result ≡ on_ok (λ v. packet_data v.0.profile v.0) (find_places at run.now) }
 {
-    match find_places(run, at) {
-        PacketPlacesAnswer::Refused(r) => DataAnswer::Refused(r),
-        PacketPlacesAnswer::Places(places) => DataAnswer::Data(packet_data(places)),
-    }
+    let places = find_places(run, at)?;
+Ok(packet_data(places))
 }
 
 // The data at `data` and `offset`, in a run of this format.
@@ -90,7 +79,7 @@ pub fn find_data(
     data: u64,
     offset: u64,
     size: u32,
-) -> DataAnswer
+) -> Result<ScanData, Refusal>
     ensures { outcome_of result ≡ find_data format «data» offset size run.now }
 {
     match format {
@@ -117,7 +106,7 @@ pub fn data_pairs(
     coefficients: &[u64],
     mz: &mut [f64],
     intensity: &mut [f64],
-) -> CountAnswer
+) -> Result<u64, Refusal>
     ensures { LeftPairs (λ m i. pairs_if_fit m i (pairs coefficients.now (content_at found run.now))) mz.old intensity.old result mz.new intensity.new }
 {
     match found {

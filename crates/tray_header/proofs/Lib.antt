@@ -1,4 +1,3 @@
 pub mod Answers
 pub mod Found
-pub mod OneAnswer
 pub mod LongerBytes

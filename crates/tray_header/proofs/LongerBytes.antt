@@ -7,14 +7,15 @@ use native.Mathlib.Omega.{arith}
 use lib.Dec.{T, leb, eqb, lit≤}
 use borrow.Author.Tests.{ne_eqb}
 use Rattle.refusal.specs.Outcome.{ok, refused}
+use Rattle.refusal.specs.Number.{outcome_of}
+use Rattle.refusal.proofs.OneAnswer.{answer_one}
 use Rattle.parser.specs.Call.{single}
 use Rattle.parser.specs.LongerBytes.{OnLongerBytes, PrefixProperty, Names, Completes}
 use Rattle.parser.proofs.Calls.{NotTruncated, not_truncated_cond, prefix_property}
 use Rattle.parser.proofs.Records.{OnePart, record_part}
-use Rattle.tray_header.specs.Header.{header, judged, read_header, read_tray_header, outcome_of}
+use Rattle.tray_header.specs.Header.{header, judged, read_header, read_tray_header}
 use Rattle.tray_header.specs.declared.TrayHeader.{TrayHeader}
 use Rattle.tray_header.proofs.Answers.{header_sized}
-use Rattle.tray_header.proofs.OneAnswer.{header_answer_one}
 
 module _ (limit number : ℕ) where
   pub header_prefix : PrefixProperty (read_header limit number)
@@ -30,7 +31,7 @@ module _ (limit number : ℕ) where
 
     pub header_part : OnePart outcome_of 1 0 (read_header limit number)
     unfolding read_header
-    header_part = record_part 1 0 header (λ h _. judged limit number h) 32 header_sized outcome_of header_answer_one (lit≤ tt) (λ h _. judged_not_truncated h)
+    header_part = record_part 1 0 header (λ h _. judged limit number h) 32 header_sized outcome_of answer_one (lit≤ tt) (λ h _. judged_not_truncated h)
 
     pub header_names : Names (λ q. q ≡ 1) (read_header limit number)
     header_names = header_part.names

@@ -1,12 +1,9 @@
 -- The header of a tray (document 01, "Tray"): eight words.
 use Rattle.std.specs.Prelude.{ℕ, cond, List, [], leb}
 use Rattle.refusal.specs.Outcome.{Outcome, ok, refused}
-use Rattle.refusal.specs.Number.{outcome_of_refusal}
 use Rattle.parser.specs.Parser.{Parser, done, ◌>>=◌, word}
 use Rattle.parser.specs.Call.{outcome, single}
 use Rattle.tray_header.specs.declared.TrayHeader.{TrayHeader}
-use Rattle.tray_header.specs.declared.TrayHeaderAnswer.{TrayHeaderAnswer}
-use Rattle.tray_header.specs.declared.TrayHeaderAnswer.TheVariants as answer
 
 unfoldable pub header : Parser TrayHeader
 header = do
@@ -41,6 +38,3 @@ read_header limit number tray = outcome (single 1 0 header (λ h _. judged limit
 abbrev pub read_tray_header : List ℕ → Outcome TrayHeader
 read_tray_header = read_header 4096 6
 
-abbrev pub outcome_of : TrayHeaderAnswer → Outcome TrayHeader
-outcome_of (answer.Header h) = ok h
-outcome_of (answer.Refused r) = outcome_of_refusal r

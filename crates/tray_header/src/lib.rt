@@ -2,9 +2,10 @@
 #![tactic(auto)]
 
 ghost use Rattle.std.specs.Prelude.{◌≡◌, ◌≤◌};
+ghost use Rattle.refusal.specs.Number.{outcome_of};
 ghost use Rattle.parser.specs.Parser.{remaining};
 ghost use Rattle.parser.specs.Internal.{value};
-ghost use Rattle.tray_header.specs.Header.{header, read_tray_header, outcome_of};
+ghost use Rattle.tray_header.specs.Header.{header, read_tray_header};
 
 use reader::{remaining, u32_at};
 use refusal::{Part, Refusal};
@@ -22,12 +23,6 @@ pub struct TrayHeader {
     pub index: u32,
     pub events: u32,
     pub data: u32,
-}
-
-#[derive(Clone, Copy)]
-pub enum TrayHeaderAnswer {
-    Header(TrayHeader),
-    Refused(Refusal),
 }
 
 // The fields of a header whose bytes are there.
@@ -48,18 +43,18 @@ fn fields(tray: &[u8]) -> TrayHeader
 }
 
 // The header of a tray: its flat word is 0 or 1, and it has at most 4,096 scans.
-pub fn read_tray_header(tray: &[u8]) -> TrayHeaderAnswer
+pub fn read_tray_header(tray: &[u8]) -> Result<TrayHeader, Refusal>
     ensures { outcome_of result ≡ read_tray_header tray.now }
 {
     if remaining(tray, 0) < 32 {
-        return TrayHeaderAnswer::Refused(Refusal::Short(Part::Header));
+        return Err(Refusal::Short(Part::Header));
     }
     let h = fields(tray);
     if h.flat > 1 {
-        return TrayHeaderAnswer::Refused(Refusal::FlatWord);
+        return Err(Refusal::FlatWord);
     }
     if h.scans > 4096 {
-        return TrayHeaderAnswer::Refused(Refusal::TooManyScans);
+        return Err(Refusal::TooManyScans);
     }
-    TrayHeaderAnswer::Header(h)
+    Ok(h)
 }

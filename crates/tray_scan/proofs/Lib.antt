@@ -1,5 +1,4 @@
 pub mod Parts
 pub mod Writing
 pub mod Consistent
-pub mod OneAnswer
 pub mod LongerBytes

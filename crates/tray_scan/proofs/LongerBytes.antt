@@ -1,4 +1,5 @@
 -- Demand 3 for scan k of a run, by its tray's header, whose words have 32 bits.
+use Rattle.std.specs.Prelude.{Result}
 use mathlib.Core.Path.{◌≡◌, refl, subst, sym, ap, ◌∙◌}
 use mathlib.Core.Logic.{◌⊎◌, inl, inr}
 use Prim.Native.Nat.{ℕ, ◌+◌, ◌*◌, ◌^◌, ◌<◌}
@@ -10,6 +11,9 @@ use lib.Ieee.{Float}
 use lib.ListN.{length}
 use Rattle.refusal.specs.Outcome.{Outcome, ok, ran_out, and_then}
 use Rattle.refusal.proofs.Outcomes.{ok_not_refused}
+use Rattle.refusal.specs.Number.{outcome_of}
+use Rattle.refusal.proofs.OneAnswer.{answer_one}
+use Rattle.refusal.specs.declared.Refusal.{Refusal}
 use Rattle.lists.specs.Written.{over}
 use Rattle.lists.specs.Left.{firsts, seconds, fits, lengths, over_all, lists_and_pairs_if_fit, LeftListsAndPairs}
 use Rattle.parser.specs.Parser.{Parser, Parsed, short, parsed, parse, ◌>>◌, skip, repeat}
@@ -32,11 +36,9 @@ use Rattle.tray_header.specs.declared.TrayHeader.{TrayHeader}
 use Rattle.tray_header.proofs.Found.{Words}
 use Rattle.tray_data.specs.Data.{Finding, of_finding, data_start, pairs}
 use Rattle.tray_data.proofs.LongerBytes.{data_bounded, finding_not_truncated}
-use Rattle.tray_scan.specs.Scan.{format_in, entry_in, tray_event, ScanParts, scan_parts, WrittenScan, scan_if_fits, scan_at, end_in, place_or_end, outcome_of}
+use Rattle.tray_scan.specs.Scan.{format_in, entry_in, tray_event, ScanParts, scan_parts, WrittenScan, scan_if_fits, scan_at, end_in, place_or_end}
 use Rattle.tray_scan.specs.Internal.{entry_of, with_data}
-use Rattle.tray_scan.specs.declared.ScanAnswer.{ScanAnswer}
 use Rattle.tray_scan.specs.declared.ScanAndNext.{ScanAndNext}
-use Rattle.tray_scan.proofs.OneAnswer.{scan_answer_one}
 use Rattle.tray_scan.proofs.Parts.{entry_alone}
 
 -- ---- every part that a call can run out in
@@ -141,10 +143,10 @@ pub written_longer : (xs : List (List ℕ)) (m i : List Float) (parts : ℕ → 
     → ((q : ℕ) → parts q → (s : List ℕ) → Bytes s → length s < 2 ^ 62 → near q s → CompletesOn q f s)
     → OnLongerBytes outcome_of (λ s r (ys : OutputSlices). LeftListsAndPairs (λ _. f s) xs m i (outcome_of r) ys.0 ys.1 ys.2) parts near
 written_longer xs m i parts near f prefix names completes =
-    left_longer outcome_of scan_answer_one f prefix parts near names (λ q s is_bytes few low o. completes q (names s q o) s is_bytes few low o) (λ (v : WrittenScan). v.0)
+    left_longer outcome_of answer_one f prefix parts near names (λ q s is_bytes few low o. completes q (names s q o) s is_bytes few low o) (λ (v : WrittenScan). v.0)
     (λ (v : WrittenScan) (l : OutputSlices). (over_all v.1 l.0, over (firsts v.2) l.1, over (seconds v.2) l.2)) (xs, m, i)
 
-abbrev and_next : ScanAnswer → ℕ → ScanAndNext
+abbrev and_next : Result Scan Refusal → ℕ → ScanAndNext
 and_next scan next = record { scan = scan; next = next }
 
 -- ---- a scan whose event stands at a place of the caller's

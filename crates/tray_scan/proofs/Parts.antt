@@ -1,4 +1,5 @@
 -- A scan is its entry, its event and its data in turn.
+use Rattle.std.specs.Prelude.{Ok, Err, Result}
 use mathlib.Core.Path.{◌≡◌, refl, ap, sym, ◌∙◌}
 use mathlib.Core.Logic.{⊎_elim}
 use Prim.Native.Nat.{ℕ, ◌+◌, ◌*◌, ◌-◌}
@@ -8,6 +9,8 @@ use mathlib.Core.List.{List}
 use lib.Dec.{leb}
 use borrow.Author.Tests.{leb-false, lt-leb}
 use Rattle.refusal.specs.Outcome.{Outcome, ok, refused, on_ok, and_then}
+use Rattle.refusal.specs.Number.{outcome_of}
+use Rattle.refusal.specs.declared.Refusal.{Refusal}
 use Rattle.lists.proofs.Cases.{leb_cases}
 use Rattle.parser.specs.Parser.{Parser, Parsed, short, parsed, parse, remaining}
 use Rattle.parser.specs.Call.{onward, outcome, part_at}
@@ -16,9 +19,7 @@ use Rattle.scan_index.specs.Entry.{entry, entry_size, read_entry}
 use Rattle.scan_index.specs.declared.ScanIndexEntry.{ScanIndexEntry}
 use Rattle.scan_index.proofs.Size.{entry_least, entry_sized}
 use Rattle.event_record.specs.Event.{Event}
-use Rattle.event_record.specs.Places.{find_by, outcome_of_places}
-use Rattle.event_record.specs.declared.PlacesAnswer.{PlacesAnswer}
-use Rattle.event_record.specs.declared.PlacesAnswer.TheVariants as place
+use Rattle.event_record.specs.Places.{find_by}
 use Rattle.events.specs.Event.{layout, event_end}
 use Rattle.events.proofs.Ends.{found_event}
 use Rattle.tray_header.specs.declared.TrayHeader.{TrayHeader}
@@ -89,10 +90,10 @@ module _ (h : TrayHeader) (k : ℕ) (s : List ℕ) where
 
 -- ---- an event that `find_event` answered
 module _ (h : TrayHeader) (at : ℕ) (s : List ℕ) where
-  abbrev pub Finds : PlacesAnswer → Type 0
-  Finds x = outcome_of_places x ≡ find_by (layout h.version h.primary h.dependent) at s
+  abbrev pub Finds : Result Places Refusal → Type 0
+  Finds x = outcome_of x ≡ find_by (layout h.version h.primary h.dependent) at s
 
-  is_event : (x : PlacesAnswer) → Finds x → event_found s x ≡ part_at 3 at (tray_event h) s
+  is_event : (x : Result Places Refusal) → Finds x → event_found s x ≡ part_at 3 at (tray_event h) s
   is_event x e = ap (on_ok _) e ∙ found_event h.version h.primary h.dependent at s
 
   pub end_is : end_in h at s ≡ and_then (part_at 3 at (tray_event h) s) (λ v. ok v.1)
@@ -103,15 +104,15 @@ module _ (h : TrayHeader) (at : ℕ) (s : List ℕ) where
       go short = refl
       go (parsed e next) = refl
 
-  pub next_is : (x : PlacesAnswer) → Finds x → next_place x ≡ place_or_end (end_in h at s)
+  pub next_is : (x : Result Places Refusal) → Finds x → next_place x ≡ place_or_end (end_in h at s)
   next_is x e = go x (sym (end_is ∙ ap (λ o. and_then o (λ v. ok v.1)) (sym (is_event x e))))
     where
-      go : (x : PlacesAnswer) → and_then (event_found s x) (λ v. ok v.1) ≡ end_in h at s → next_place x ≡ place_or_end (end_in h at s)
-      go (place.At p) i = ap place_or_end i
-      go (place.Refused r) i = ap place_or_end i
+      go : (x : Result Places Refusal) → and_then (event_found s x) (λ v. ok v.1) ≡ end_in h at s → next_place x ≡ place_or_end (end_in h at s)
+      go (Ok p) i = ap place_or_end i
+      go (Err r) i = ap place_or_end i
 
 -- ---- the scan, where the event was sought first
-module _ (h : TrayHeader) (k at : ℕ) (s : List ℕ) (x : PlacesAnswer) (e : Finds h at s x) where
+module _ (h : TrayHeader) (k at : ℕ) (s : List ℕ) (x : Result Places Refusal) (e : Finds h at s x) where
   whole : in_turn h k (event_found s x) s ≡ outcome (scan_parts h k at (tray_event h)) s
   whole = ap (λ o. in_turn h k o s) (is_event h at s x e) ∙ in_turn-part_at h k s at (tray_event h)
 

@@ -1,7 +1,6 @@
 -- Scan k of a run by its tray's header (document 01, "Tray"): entry k, event k and the data, and what is written of them.
 use Rattle.std.specs.Prelude.{ℕ, ◌*◌, ◌-◌, ◌^◌, List, eqb, length}
 use Rattle.refusal.specs.Outcome.{Outcome, ok, refused, and_then}
-use Rattle.refusal.specs.Number.{outcome_of_refusal}
 use Rattle.lists.specs.Left.{lists_and_pairs_if_fit}
 use Rattle.parser.specs.Parser.{Parser, ◌>>◌, skip}
 use Rattle.parser.specs.Call.{Call, answer, part, outcome}
@@ -15,8 +14,6 @@ use Rattle.pairs.specs.Pairs.{Pair}
 use Rattle.tray_header.specs.declared.TrayHeader.{TrayHeader}
 use Rattle.tray_data.specs.Data.{Content, of_finding, data_start, scan_data, pairs}
 use Rattle.tray_scan.specs.declared.Scan.{Scan}
-use Rattle.tray_scan.specs.declared.ScanAnswer.{ScanAnswer}
-use Rattle.tray_scan.specs.declared.ScanAnswer.TheVariants as answers
 
 -- the header's format; entry k of the index, which those before it precede; and an event
 abbrev pub format_in : TrayHeader → ScanDataFormat
@@ -66,6 +63,3 @@ abbrev pub place_or_end : Outcome ℕ → ℕ
 place_or_end (ok at) = at
 place_or_end (refused number carries) = 2 ^ 64 - 1
 
-abbrev pub outcome_of : ScanAnswer → Outcome Scan
-outcome_of (answers.Scan s) = ok s
-outcome_of (answers.Refused r) = outcome_of_refusal r

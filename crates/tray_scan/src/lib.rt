@@ -3,20 +3,20 @@
 #![tactic(auto)]
 
 ghost use Rattle.std.specs.Prelude.{◌≡◌, [], ◌∷◌};
+ghost use Rattle.refusal.specs.Number.{outcome_of};
 ghost use Rattle.lists.specs.Left.{LeftListsAndPairs};
-ghost use Rattle.scan_index.specs.Entry.{outcome_of as outcome_of_entry};
-ghost use Rattle.tray_data.specs.Data.{find_data, outcome_of as outcome_of_data};
-ghost use Rattle.tray_scan.specs.Scan.{format_in, scan_if_fits, scan_at, end_in, place_or_end, outcome_of};
+ghost use Rattle.tray_data.specs.Data.{find_data};
+ghost use Rattle.tray_scan.specs.Scan.{format_in, scan_if_fits, scan_at, end_in, place_or_end};
 ghost use Rattle.tray_scan.specs.Internal.{entry_of, in_turn, parts_at, outcome_of_scan_places, CountHolds, CountHoldsIn, event_found, next_place};
 
-use event_record::{EventAnswer, Places, PlacesAnswer, ScanEvent};
+use event_record::{Places, ScanEvent};
 use event_writer::write_event;
 use events::find_event;
 use lists::holds;
 use refusal::Refusal;
 use scan_format::ScanDataFormat;
-use scan_index::{EntryAnswer, ScanIndexEntry};
-use tray_data::{DataAnswer, ScanData, data_pairs, find_data, pair_count};
+use scan_index::ScanIndexEntry;
+use tray_data::{ScanData, data_pairs, find_data, pair_count};
 use tray_header::TrayHeader;
 
 #[derive(Clone, Copy)]
@@ -29,17 +29,11 @@ pub struct Scan {
     pub pairs: u64,
 }
 
-#[derive(Clone, Copy)]
-pub enum ScanAnswer {
-    Scan(Scan),
-    Refused(Refusal),
-}
-
 // A scan's answer, and the place to read the next event at: after the scan's event, or the largest of all where that was not
 // found, whatever became of the entry and the data.
 #[derive(Clone, Copy)]
 pub struct ScanAndNext {
-    pub scan: ScanAnswer,
+    pub scan: Result<Scan, Refusal>,
     pub next: u64,
 }
 
@@ -51,15 +45,9 @@ struct ScanPlaces {
     data: ScanData,
 }
 
-#[derive(Clone, Copy)]
-enum ScanPlacesAnswer {
-    At(ScanPlaces),
-    Refused(Refusal),
-}
-
 // Entry k of the index.
-fn entry_of(run: &[u8], h: TrayHeader, k: u32) -> EntryAnswer
-    ensures { outcome_of_entry result ≡ entry_of h k run.now }
+fn entry_of(run: &[u8], h: TrayHeader, k: u32) -> Result<ScanIndexEntry, Refusal>
+    ensures { outcome_of result ≡ entry_of h k run.now }
 {
     let size = ScanIndexEntry::min_size_for_version(h.version);
     ScanIndexEntry::read(run, h.index as u64 + k as u64 * size, h.version)
@@ -72,32 +60,26 @@ pub fn format_in(h: TrayHeader) -> ScanDataFormat
     ScanDataFormat::detect(h.version, h.flat == 1)
 }
 
-fn data_of(run: &[u8], h: TrayHeader, entry: ScanIndexEntry) -> DataAnswer
-    ensures { outcome_of_data result ≡ find_data (format_in h) h.«data» entry.offset entry.data_size run.now }
+fn data_of(run: &[u8], h: TrayHeader, entry: ScanIndexEntry) -> Result<ScanData, Refusal>
+    ensures { outcome_of result ≡ find_data (format_in h) h.«data» entry.offset entry.data_size run.now }
 {
     let format = format_in(h);
     find_data(run, format, h.data as u64, entry.offset, entry.data_size)
 }
 
 // Entry k and its data, with the event that was sought.
-fn find_scan(run: &[u8], h: TrayHeader, k: u32, event: PlacesAnswer) -> ScanPlacesAnswer
+fn find_scan(run: &[u8], h: TrayHeader, k: u32, event: Result<Places, Refusal>) -> Result<ScanPlaces, Refusal>
     ensures result_value { outcome_of_scan_places run.now result ≡ in_turn h k (event_found run.now event) run.now }
     ensures count_holds_in { CountHoldsIn run.now result }
 {
-    match entry_of(run, h, k) {
-        EntryAnswer::Refused(r) => ScanPlacesAnswer::Refused(r),
-        EntryAnswer::Entry(entry) => match event {
-            PlacesAnswer::Refused(r) => ScanPlacesAnswer::Refused(r),
-            PlacesAnswer::At(places) => match data_of(run, h, entry) {
-                DataAnswer::Refused(r) => ScanPlacesAnswer::Refused(r),
-                DataAnswer::Data(data) => ScanPlacesAnswer::At(ScanPlaces {
+    let entry = entry_of(run, h, k)?;
+let places = event?;
+let data = data_of(run, h, entry)?;
+Ok(ScanPlaces {
                     entry,
                     event: places,
                     data,
-                }),
-            },
-        },
-    }
+                })
 }
 
 // A scan that was found, where the slices hold it. The event's room is tested where it is written.
@@ -110,7 +92,7 @@ fn write_scan(
     coefficients: &mut [u64],
     mz: &mut [f64],
     intensity: &mut [f64],
-) -> ScanAnswer
+) -> Result<Scan, Refusal>
     requires { CountHolds run.now p.«data» }
     ensures { LeftListsAndPairs (λ c. scan_if_fits c (parts_at run.now p))
         (preamble.old ∷ precursors.old ∷ energies.old ∷ coefficients.old ∷ []) mz.old intensity.old
@@ -125,31 +107,27 @@ fn write_scan(
         mz.len() as u64,
         holds(pairs, intensity.len() as u64, true),
     ) {
-        return match write_event(run, places, preamble, precursors, energies, coefficients) {
-            EventAnswer::Refused(r) => ScanAnswer::Refused(r),
-            EventAnswer::Event(read) => {
-                let event = read.event;
+        let read = write_event(run, places, preamble, precursors, energies, coefficients)?;
+let event = read.event;
                 let n = event.coefficients as usize;
-                data_pairs(run, data, &coefficients[..n], mz, intensity);
-                ScanAnswer::Scan(Scan {
+                let _ = data_pairs(run, data, &coefficients[..n], mz, intensity);
+ return Ok(Scan {
                     entry,
                     event,
                     next: read.next,
                     pairs,
-                })
-            }
-        };
+                });
     }
-    ScanAnswer::Refused(Refusal::NoRoom)
+    Err(Refusal::NoRoom)
 }
 
 // The place to read the next event at.
-fn next_place(event: PlacesAnswer) -> u64
+fn next_place(event: Result<Places, Refusal>) -> u64
     ensures { result ≡ next_place event }
 {
     match event {
-        PlacesAnswer::Refused(_) => u64::MAX,
-        PlacesAnswer::At(p) => p.next,
+        Err(_) => u64::MAX,
+        Ok(p) => p.next,
     }
 }
 
@@ -174,11 +152,11 @@ pub fn scan_at(
     let event = find_event(run, at, h.version, h.primary, h.dependent);
     let next = next_place(event);
     match find_scan(run, h, k, event) {
-        ScanPlacesAnswer::Refused(r) => ScanAndNext {
-            scan: ScanAnswer::Refused(r),
+        Err(r) => ScanAndNext {
+            scan: Err(r),
             next,
         },
-        ScanPlacesAnswer::At(places) => ScanAndNext {
+        Ok(places) => ScanAndNext {
             scan: write_scan(
                 run,
                 places,

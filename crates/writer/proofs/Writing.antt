@@ -1,4 +1,5 @@
 -- The ways out of a call that writes a record's bytes over the front of a lent slice, and back from its outcome.
+use Rattle.std.specs.Prelude.{Ok, Err}
 use mathlib.Core.Path.{◌≡◌, refl, sym, ◌∙◌}
 use Prim.Native.Nat.{ℕ, ◌≤◌}
 use mathlib.Core.Bool.{Bool, true, false}
@@ -6,7 +7,6 @@ use mathlib.Core.List.{List, ◌++◌, append_assoc}
 use lib.ListN.{length, drop}
 use lib.Seq.{sets}
 use Rattle.refusal.specs.Outcome.{ok}
-use Rattle.refusal.specs.declared.CountAnswer.TheVariants.{Count, Refused}
 use Rattle.refusal.specs.declared.Refusal.TheVariants.{NoRoom, NotHeld}
 use Rattle.refusal.proofs.Outcomes.{ok_not_refused}
 use Rattle.lists.specs.Written.{over}
@@ -16,14 +16,14 @@ use Rattle.layout.specs.Write.{if_held}
 use Rattle.writer.proofs.Stores.{sets_over}
 
 module _ (held : Bool) (room : ℕ → Bool) (bs out : List ℕ) where
-  pub not_held : held ≡ false → LeftListBy (λ c. if_held held (if_fits (room c) bs)) out (Refused NotHeld) out
+  pub not_held : held ≡ false → LeftListBy (λ c. if_held held (if_fits (room c) bs)) out (Err NotHeld) out
   not_held h = left_refused (rw h)
 
-  pub no_room : held ≡ true → room (length out) ≡ false → LeftListBy (λ c. if_held held (if_fits (room c) bs)) out (Refused NoRoom) out
+  pub no_room : held ≡ true → room (length out) ≡ false → LeftListBy (λ c. if_held held (if_fits (room c) bs)) out (Err NoRoom) out
   no_room h k = left_refused (rw (h, k))
 
   pub all_written : held ≡ true → room (length out) ≡ true → {n : ℕ} → length bs ≡ n → n ≤ length out → {ys : List ℕ} → ys ≡ sets out 0 bs
-      → LeftListBy (λ c. if_held held (if_fits (room c) bs)) out (Count n) ys
+      → LeftListBy (λ c. if_held held (if_fits (room c) bs)) out (Ok n) ys
   all_written h k size l e = left_written {a = bs} (rw (h, k)) (sym size) (e ∙ sets_over bs out (rw size l))
 
 pub held_ok : {A : Type 0} (held room : Bool) (v : A) {a : A} → ok a ≡ if_held held (if_fits room v) → (held ≡ true) × (room ≡ true) × (a ≡ v)

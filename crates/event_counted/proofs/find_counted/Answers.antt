@@ -5,10 +5,10 @@ use Rattle.parser.proofs.Prefix.{part_is}
 use Rattle.event_counted.proofs.Answers.{short_preamble, short_body, wrong, found}
 use Rattle.event_counted.proofs.find_counted.Goals as goal
 
-pub returns-in-Refused : goal.returns-in-Refused
-returns-in-Refused c =
+pub returns-in-Err : goal.returns-in-Err
+returns-in-Err c =
     let a = c.args in
-    wrong _ _ _ (omega arith) (omega arith) (part_is a.run.now a.at 136) (part_is a.run.now (a.at + 136) a.body_size) (rw c.in-Refused.is at c.judge_body.ensures)
+    wrong _ _ _ (omega arith) (omega arith) (part_is a.run.now a.at 136) (part_is a.run.now (a.at + 136) a.body_size) (rw c.in-Err.is at c.judge_body.ensures)
 
 pub returns-in-Holds : goal.returns-in-Holds
 returns-in-Holds c =

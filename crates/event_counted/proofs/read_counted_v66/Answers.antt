@@ -5,8 +5,8 @@ use Rattle.event_counted.proofs.Answers.{counted_then}
 use borrow.Author.Rules.{rules}
 use Rattle.event_counted.proofs.read_counted_v66.Goals as goal
 
-pub returns-in-Refused : goal.returns-in-Refused
-returns-in-Refused c = left_same (counted_then _ _ _ _) (read_refused _ (rw c.in-Refused.is at c.find_counted.ensures))
+pub returns-in-Err : goal.returns-in-Err
+returns-in-Err c = left_same (counted_then _ _ _ _) (read_refused _ (rw c.in-Err.is at c.find_counted.ensures))
 
 pub returns-in-At : goal.returns-in-At
 returns-in-At c =

@@ -1,7 +1,7 @@
 -- `events::event_place` meets its contract: a turn passes one event (`Passed`).
 use mathlib.Core.Path.{sym, ap, ◌∙◌}
 use native.Mathlib.Omega.{arith}
-use Rattle.refusal.specs.Number.{outcome_of_count}
+use Rattle.refusal.specs.Number.{outcome_of}
 use Rattle.events.proofs.Ends.{passed_none, passed_more, passed_short, passed_all}
 use Rattle.events.proofs.event_place.Goals as goal
 
@@ -10,11 +10,11 @@ loop-i-init c =
     let a = c.args in
     passed_none a.version a.body_primary a.body_dependent a.start a.k a.run.now
 
-pub returns-in-Refused : goal.returns-in-Refused
-returns-in-Refused c =
+pub returns-in-Err : goal.returns-in-Err
+returns-in-Err c =
     let a = c.args in
     let l = c.loop-i in
-    passed_short a.version a.body_primary a.body_dependent a.start a.k a.run.now l.i l.at c.loop-i-test.true l.invariant (sym (ap outcome_of_count c.in-Refused.is) ∙ c.event_end.ensures)
+    passed_short a.version a.body_primary a.body_dependent a.start a.k a.run.now l.i l.at c.loop-i-test.true l.invariant (sym (ap outcome_of c.in-Err.is) ∙ c.event_end.ensures)
 
 pub overflow_add-i : goal.overflow_add-i
 overflow_add-i c = omega (arith, c.loop-i-test.true)
@@ -26,7 +26,7 @@ pub loop-i-preserved : goal.loop-i-preserved
 loop-i-preserved c =
     let a = c.args in
     let l = c.loop-i in
-    passed_more a.version a.body_primary a.body_dependent a.start a.k a.run.now l.i l.at c.loop-i-test.true l.invariant _ (sym (ap outcome_of_count c.in-Count.is) ∙ c.event_end.ensures)
+    passed_more a.version a.body_primary a.body_dependent a.start a.k a.run.now l.i l.at c.loop-i-test.true l.invariant _ (sym (ap outcome_of c.in-Count.is) ∙ c.event_end.ensures)
 
 pub returns : goal.returns
 returns c =

@@ -4,8 +4,8 @@ use Rattle.event_writer.proofs.Reading.{read_refused, read_found}
 use Rattle.events.proofs.Ends.{then_read}
 use Rattle.events.proofs.read.Goals as goal
 
-pub returns-in-Refused : goal.returns-in-Refused
-returns-in-Refused c = left_same (then_read _ _ _ _ _ _) (read_refused _ (rw c.in-Refused.is at c.find_event.ensures))
+pub returns-in-Err : goal.returns-in-Err
+returns-in-Err c = left_same (then_read _ _ _ _ _ _) (read_refused _ (rw c.in-Err.is at c.find_event.ensures))
 
 pub returns-in-At : goal.returns-in-At
 returns-in-At c =

@@ -1,12 +1,12 @@
 -- The header decides.
 use mathlib.Core.Path.{sym, ap, ◌∙◌}
-use Rattle.tray_header.specs.Header.{outcome_of}
+use Rattle.refusal.specs.Number.{outcome_of}
 use Rattle.listing_tray.specs.Listing.{header_text}
 use Rattle.listing_tray.proofs.Texts.{refusal_is}
 use Rattle.listing_tray.proofs.list_header.Goals as goal
 
-pub returns-in-Refused : goal.returns-in-Refused
-returns-in-Refused c = rw (refusal_is 0 c.in-Refused.r ∙ ap (λ x. header_text (outcome_of x)) (sym c.in-Refused.is)) at c.write_refusal_line.ensures
+pub returns-in-Err : goal.returns-in-Err
+returns-in-Err c = rw (refusal_is 0 c.in-Err.r ∙ ap (λ x. header_text (outcome_of x)) (sym c.in-Err.is)) at c.write_refusal_line.ensures
 
 pub returns-in-Header : goal.returns-in-Header
 returns-in-Header c = rw (ap (λ x. header_text (outcome_of x)) (sym c.in-Header.is)) at c.write_tray_line.ensures

@@ -21,9 +21,9 @@ pub slice_bounds-write_listed-end-in-Scan : goal.slice_bounds-write_listed-end-i
 slice_bounds-write_listed-end-in-Scan c =
     sym (simp length-take (omega (arith, (has_text _ _ _ _ _ _ _ _ _ _ _ _ c.scan_at-read.ensures.left_lists_and_pairs _ c.in-Scan.is).in_intensity)))
 
-pub returns-in-Refused : goal.returns-in-Refused
-returns-in-Refused c =
-    let a = c.args in record { left_list = rw (refused_text a.h a.k a.at a.run.now _ _ _ _ _ _ _ _ c.scan_at-read.ensures.left_lists_and_pairs _ c.in-Refused.is) at c.write_refusal_line.ensures; next_value = c.scan_at-read.ensures.next_value }
+pub returns-in-Err : goal.returns-in-Err
+returns-in-Err c =
+    let a = c.args in record { left_list = rw (refused_text a.h a.k a.at a.run.now _ _ _ _ _ _ _ _ c.scan_at-read.ensures.left_lists_and_pairs _ c.in-Err.is) at c.write_refusal_line.ensures; next_value = c.scan_at-read.ensures.next_value }
 
 pub returns-in-Scan : goal.returns-in-Scan
 returns-in-Scan c =

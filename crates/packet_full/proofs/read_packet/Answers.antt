@@ -1,8 +1,9 @@
 -- The stages decide, then the room for the chunks; then the lists are written, or refused; and then the chunks are written.
 use mathlib.Core.Path.{◌≡◌, sym, ap, ◌∙◌}
 use Rattle.refusal.specs.Outcome.{ok, on_ok}
+use Rattle.refusal.specs.Number.{outcome_of}
 use Rattle.lists.proofs.Left.{left_refused, left_same}
-use Rattle.packet_record.specs.Packet.{contents_at, outcome_of_packet_places}
+use Rattle.packet_record.specs.Packet.{contents_at}
 use Rattle.packet_places.specs.Places.{find_places}
 use Rattle.packet_full.specs.Internal.{found_chunks}
 use Rattle.packet_full.proofs.Answers.{places_short, places_found, profile_there}
@@ -11,7 +12,7 @@ use Rattle.packet_full.proofs.read_packet.Goals as goal
 use Rattle.packet_full.proofs.read_packet.Goals.{After-chunks_fit}
 
 found : (k : After-chunks_fit) → let p = k.in-Places.places in ok (p, contents_at k.args.run.now p) ≡ find_places k.args.at k.args.run.now
-found k = sym (ap (λ r. on_ok (λ p. (p, contents_at k.args.run.now p)) (outcome_of_packet_places r)) k.in-Places.is) ∙ k.find_places.ensures
+found k = sym (ap (λ r. on_ok (λ p. (p, contents_at k.args.run.now p)) (outcome_of r)) k.in-Places.is) ∙ k.find_places.ensures
 
 -- what the test says
 test : (k : After-chunks_fit) → let a = k.args in
@@ -25,16 +26,16 @@ write_profile-requires c =
     let k = (goal.at.write_profile-requires c).After-chunks_fit in
     has_chunks c.in-Places.places.profile _ _ _ _ _ (profile_there c.args.run.now c.args.at (found k)) (sym (test k) ∙ c.if-chunks_fit.true)
 
-pub returns-in-Refused : goal.returns-in-Refused
-returns-in-Refused c =
+pub returns-in-Err : goal.returns-in-Err
+returns-in-Err c =
     let s = c.args.run.now in
-    left_refused (places_short _ _ _ (sym (ap (λ r. on_ok (λ p. (p, contents_at s p)) (outcome_of_packet_places r)) c.in-Refused.is) ∙ c.find_places.ensures))
+    left_refused (places_short _ _ _ (sym (ap (λ r. on_ok (λ p. (p, contents_at s p)) (outcome_of r)) c.in-Err.is) ∙ c.find_places.ensures))
 
-pub returns-in-Refused-write_packet : goal.returns-in-Refused-write_packet
-returns-in-Refused-write_packet c =
-    let k = (goal.at.returns-in-Refused-write_packet c).After-chunks_fit in
+pub returns-in-Err-write_packet : goal.returns-in-Err-write_packet
+returns-in-Err-write_packet c =
+    let k = (goal.at.returns-in-Err-write_packet c).After-chunks_fit in
     left_same (places_found _ _ _ (found k))
-    (lists_refused _ _ (found_chunks c.in-Places.places.profile c.args.run.now) _ _ _ _ _ _ _ _ (rw c.in-Refused-write_packet.is at c.write_packet.ensures))
+    (lists_refused _ _ (found_chunks c.in-Places.places.profile c.args.run.now) _ _ _ _ _ _ _ _ (rw c.in-Err-write_packet.is at c.write_packet.ensures))
 
 pub returns-in-Packet : goal.returns-in-Packet
 returns-in-Packet c =

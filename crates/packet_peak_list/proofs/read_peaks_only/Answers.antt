@@ -1,15 +1,15 @@
 -- The peaks that were found are handed out.
 use mathlib.Core.Path.{sym, ap, ◌∙◌}
+use Rattle.refusal.specs.Number.{outcome_of}
 use Rattle.lists.proofs.Left.{left_refused, left_same}
-use Rattle.packet_peak_list.specs.PeakList.{outcome_of_skipped}
 use Rattle.packet_peak_list.proofs.Skipping.{peaks_only, peaks_only_short}
 use Rattle.packet_peak_list.proofs.read_peaks_only.Goals as goal
 
-pub returns-in-Refused : goal.returns-in-Refused
-returns-in-Refused c = left_refused (peaks_only_short _ _ _ _ (sym (ap outcome_of_skipped c.in-Refused.is) ∙ c.skip_to_peaks.ensures))
+pub returns-in-Err : goal.returns-in-Err
+returns-in-Err c = left_refused (peaks_only_short _ _ _ _ (sym (ap outcome_of c.in-Err.is) ∙ c.skip_to_peaks.ensures))
 
 pub returns-in-Packet : goal.returns-in-Packet
 returns-in-Packet c =
     left_same
-    (peaks_only _ _ _ _ _ (sym (ap outcome_of_skipped c.in-Packet.is) ∙ c.skip_to_peaks.ensures) c.item_size.ensures.value)
+    (peaks_only _ _ _ _ _ (sym (ap outcome_of c.in-Packet.is) ∙ c.skip_to_peaks.ensures) c.item_size.ensures.value)
     c.write_peaks.ensures

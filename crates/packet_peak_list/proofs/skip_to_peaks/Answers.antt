@@ -1,9 +1,8 @@
 -- `packet_peak_list::skip_to_peaks` meets its contract: the header, the profile that is passed over, and the list.
 use mathlib.Core.Path.{sym, ap, ◌∙◌}
 use native.Mathlib.Omega.{arith}
-use Rattle.packet_header.specs.Header.{outcome_of}
+use Rattle.refusal.specs.Number.{outcome_of}
 use Rattle.packet_header.proofs.Size.{header_read}
-use Rattle.packet_peak_list.specs.PeakList.{outcome_of_list}
 use Rattle.packet_peak_list.proofs.Skipping.{skip_header_short, skip_profile_short, skip_list_short, skip_found}
 use Rattle.packet_peak_list.proofs.skip_to_peaks.Goals as goal
 
@@ -30,12 +29,12 @@ overflow_add-at-then-profile-remaining-2 c =
 pub returns-in_default-read_peaks : goal.returns-in_default-read_peaks
 returns-in_default-read_peaks c =
     let a = c.args in
-    skip_list_short a.run.now a.at (sym (ap outcome_of c.in-Header.is) ∙ c.read.ensures) (omega (arith, c.remaining.ensures, c.if-profile-remaining.true)) (sym (ap outcome_of_list c.in_default-read_peaks.is) ∙ c.read_peaks.ensures)
+    skip_list_short a.run.now a.at (sym (ap outcome_of c.in-Header.is) ∙ c.read.ensures) (omega (arith, c.remaining.ensures, c.if-profile-remaining.true)) (sym (ap outcome_of c.in_default-read_peaks.is) ∙ c.read_peaks.ensures)
 
 pub returns-then-profile-remaining : goal.returns-then-profile-remaining
 returns-then-profile-remaining c =
     let a = c.args in
-    skip_found a.run.now a.at (sym (ap outcome_of c.in-Header.is) ∙ c.read.ensures) (omega (arith, c.remaining.ensures, c.if-profile-remaining.true)) (sym (ap outcome_of_list c.in-List.is) ∙ c.read_peaks.ensures)
+    skip_found a.run.now a.at (sym (ap outcome_of c.in-Header.is) ∙ c.read.ensures) (omega (arith, c.remaining.ensures, c.if-profile-remaining.true)) (sym (ap outcome_of c.in-List.is) ∙ c.read_peaks.ensures)
 
 pub returns : goal.returns
 returns c =

@@ -2,8 +2,9 @@
 -- values are at most the place, so their number fits.
 use mathlib.Core.Path.{◌≡◌, ap, sym, ◌∙◌}
 use native.Mathlib.Omega.{arith}
+use Rattle.refusal.specs.Number.{outcome_of}
 use Rattle.parser.proofs.Walk.{walk_none, walk_more}
-use Rattle.packet_profile.specs.Profile.{points as points_of, chunk, outcome_of_signal}
+use Rattle.packet_profile.specs.Profile.{points as points_of, chunk}
 use Rattle.packet_profile.proofs.Chunks.{list_short, list_all}
 use Rattle.packet_profile.proofs.Signals.{There, there, missing, points_at}
 use borrow.Author.Rules.{rules}
@@ -17,11 +18,11 @@ pub returns-in_default : goal.returns-in_default
 returns-in_default c =
     let a = c.args in
     let l = c.loop-i in
-    list_short a.fudged a.count a.run.now a.start l.i l.at l.points (omega arith) l.invariant.2 (missing a.fudged a.run.now l.at (sym (ap outcome_of_signal c.in_default.is) ∙ c.signal_at.ensures))
+    list_short a.fudged a.count a.run.now a.start l.i l.at l.points (omega arith) l.invariant.2 (missing a.fudged a.run.now l.at (sym (ap outcome_of c.in_default.is) ∙ c.signal_at.ensures))
 
 -- the chunk of this turn is there
 chunk_there : (c : In-Signal) → let a = c.args in There a.fudged a.run.now c.loop-i.at c.in-Signal.signal
-chunk_there c = there _ _ _ (sym (ap outcome_of_signal c.in-Signal.is) ∙ c.signal_at.ensures)
+chunk_there c = there _ _ _ (sym (ap outcome_of c.in-Signal.is) ∙ c.signal_at.ensures)
 
 pub overflow_add-points : goal.overflow_add-points
 overflow_add-points c = omega (arith, c.loop-i.invariant.1, (chunk_there (goal.at.overflow_add-points c).In-Signal).starts, (chunk_there (goal.at.overflow_add-points c).In-Signal).ends)

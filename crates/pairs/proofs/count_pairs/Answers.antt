@@ -1,7 +1,7 @@
 -- `pairs::count_pairs` meets its contract: a turn passes one chunk and counts its values (`Counting`).
 use mathlib.Core.Path.{ap, sym, ◌∙◌}
 use native.Mathlib.Omega.{arith}
-use Rattle.packet_profile.specs.Profile.{outcome_of_signal}
+use Rattle.refusal.specs.Number.{outcome_of}
 use Rattle.packet_profile.proofs.Signals.{There, there, missing}
 use Rattle.pairs.proofs.Counting.{counting_first, counting_more, counting_short, counting_all}
 use Rattle.pairs.proofs.count_pairs.Goals as goal
@@ -14,11 +14,11 @@ pub returns-in_default : goal.returns-in_default
 returns-in_default c =
     let a = c.args in
     let l = c.loop-passed in
-    counting_short a.profile a.run.now l.invariant (missing a.profile.fudged a.run.now l.at (sym (ap outcome_of_signal c.in_default.is) ∙ c.signal_at.ensures))
+    counting_short a.profile a.run.now l.invariant (missing a.profile.fudged a.run.now l.at (sym (ap outcome_of c.in_default.is) ∙ c.signal_at.ensures))
 
 -- the chunk of this turn is there
 chunk_there : (c : In-Signal) → let a = c.args in There a.profile.fudged a.run.now c.loop-passed.at c.in-Signal.found
-chunk_there c = there _ _ _ (sym (ap outcome_of_signal c.in-Signal.is) ∙ c.signal_at.ensures)
+chunk_there c = there _ _ _ (sym (ap outcome_of c.in-Signal.is) ∙ c.signal_at.ensures)
 
 pub overflow_add-pairs : goal.overflow_add-pairs
 overflow_add-pairs c = omega (arith, c.loop-passed.invariant.fits, (chunk_there (goal.at.overflow_add-pairs c).In-Signal).starts, (chunk_there (goal.at.overflow_add-pairs c).In-Signal).ends)

@@ -1,7 +1,7 @@
 -- `pairs::write_pairs` meets its contract: a turn writes one chunk's pairs through the tails of both slices (`Writing`).
 use mathlib.Core.Path.{refl, ap, sym, ◌∙◌}
 use native.Mathlib.Omega.{arith}
-use Rattle.packet_profile.specs.Profile.{outcome_of_signal}
+use Rattle.refusal.specs.Number.{outcome_of}
 use Rattle.packet_profile.proofs.Signals.{There, there, missing}
 use Rattle.pairs.proofs.Writing.{writing_first, writing_more, writing_short, writing_all, mz_size, intensity_size, mz_within, intensity_within, with_chunk}
 use Rattle.pairs.proofs.write_pairs.Goals as goal
@@ -22,12 +22,12 @@ pub returns-in_default : goal.returns-in_default
 returns-in_default c =
     let a = c.args in
     let l = c.loop-i in
-    let all = writing_short _ _ _ _ _ c.requires.run_in_bounds c.requires.run_in_bounds_2 l.invariant (missing a.profile.fudged a.run.now l.at (sym (ap outcome_of_signal c.in_default.is) ∙ c.signal_at.ensures)) in
+    let all = writing_short _ _ _ _ _ c.requires.run_in_bounds c.requires.run_in_bounds_2 l.invariant (missing a.profile.fudged a.run.now l.at (sym (ap outcome_of c.in_default.is) ∙ c.signal_at.ensures)) in
     record { mz_after = all.0; intensity_after = all.1 }
 
 -- the chunk of this turn is there
 chunk_there : (c : In-Signal) → There c.args.profile.fudged c.args.run.now c.loop-i.at c.in-Signal.signal
-chunk_there c = there _ _ _ (sym (ap outcome_of_signal c.in-Signal.is) ∙ c.signal_at.ensures)
+chunk_there c = there _ _ _ (sym (ap outcome_of c.in-Signal.is) ∙ c.signal_at.ensures)
 
 pub offset_bounds-mz-n : goal.offset_bounds-mz-n
 offset_bounds-mz-n c = omega (arith, mz_within _ _ _ _ _ c.requires.run_in_bounds c.requires.run_in_bounds_2 c.loop-i.invariant, mz_size _ _ _ _ _ c.requires.run_in_bounds c.requires.run_in_bounds_2 c.loop-i.invariant)

@@ -2,7 +2,7 @@
 use mathlib.Core.Path.{◌≡◌, sym, ap, ◌∙◌}
 use native.Mathlib.Omega.{arith}
 use Rattle.refusal.specs.Outcome.{ok}
-use Rattle.refusal.specs.Number.{outcome_of_count}
+use Rattle.refusal.specs.Number.{outcome_of}
 use Rattle.srm_scan.specs.Internal.{channels}
 use Rattle.srm_scan.proofs.Counting.{channels_there}
 use Rattle.srm_scan.proofs.Answers.{found, find_refused}
@@ -11,7 +11,7 @@ use Rattle.srm_scan.proofs.find_srm_peaks.Goals.{In-Count}
 
 -- the channels that were counted
 counted : (c : In-Count) → ok c.in-Count.n ≡ channels 20 c.args.run.now c.saturating_add-at.result
-counted c = sym (ap outcome_of_count c.in-Count.is) ∙ c.count_channels.ensures
+counted c = sym (ap outcome_of c.in-Count.is) ∙ c.count_channels.ensures
 
 pub overflow_add-result : goal.overflow_add-result
 overflow_add-result c =
@@ -28,10 +28,10 @@ overflow_add-result-in-Count c =
     let there = channels_there 20 _ _ _ (counted (goal.at.overflow_add-result-in-Count c).In-Count) in
     omega arith
 
-pub returns-in-Refused : goal.returns-in-Refused
-returns-in-Refused c =
+pub returns-in-Err : goal.returns-in-Err
+returns-in-Err c =
     let a = c.args in
-    find_refused a.«data» a.offset a.run.now _ c.saturating_add-at.ensures (sym (ap outcome_of_count c.in-Refused.is) ∙ c.count_channels.ensures)
+    find_refused a.«data» a.offset a.run.now _ c.saturating_add-at.ensures (sym (ap outcome_of c.in-Err.is) ∙ c.count_channels.ensures)
 
 pub returns-in-Count : goal.returns-in-Count
 returns-in-Count c =

@@ -1,8 +1,8 @@
 -- `srm_transition::search_v63_transition` meets its contract. The invariant: no place before j passed, so the search goes on from j.
+use Rattle.std.specs.Prelude.{Some}
 use mathlib.Core.Path.{refl, sym, ap, ◌∙◌}
 use native.Mathlib.Omega.{arith}
 use Rattle.srm_transition.specs.Transition.{search_v63_transition}
-use Rattle.srm_transition.specs.declared.TransitionAnswer.TheVariants.{Found}
 use Rattle.srm_transition.proofs.Places.{first_here, first_later, first_none}
 use borrow.Author.Rules.{rules}
 use Rattle.srm_transition.proofs.search_v63_transition.Goals as goal
@@ -13,7 +13,7 @@ loop-j-init c = (search rules, refl)
 
 pub returns-then-v63_test : goal.returns-then-v63_test
 returns-then-v63_test c =
-    ap Found c.v63_at.ensures
+    ap Some c.v63_at.ensures
     ∙ sym (c.loop-j.invariant.1 ∙ first_here _ _ _ _ _ (omega arith) (sym c.v63_test.ensures ∙ c.if-v63_test.true))
 
 pub loop-j-preserved : goal.loop-j-preserved

@@ -2,8 +2,8 @@
 use mathlib.Core.Path.{◌≡◌, sym, ap, ◌∙◌}
 use native.Mathlib.Omega.{arith}
 use Rattle.refusal.specs.Outcome.{ok}
+use Rattle.refusal.specs.Number.{outcome_of}
 use Rattle.events.specs.Event.{event_place}
-use Rattle.tray_header.specs.Header.{outcome_of}
 use Rattle.tray.specs.Scan.{header_with, event_of}
 use Rattle.tray.proofs.Headers.{with_size, with_few, run_is}
 use Rattle.tray.proofs.event_of.Goals as goal
@@ -21,9 +21,9 @@ slice_bounds-event_place-start c = omega (arith, with_size 4096 6 _ _ (header (g
 pub overflow_cast-k : goal.overflow_cast-k
 overflow_cast-k c = omega (arith, with_few 4096 6 _ _ (header (goal.at.overflow_cast-k c).In-Header))
 
-pub returns-in-Refused : goal.returns-in-Refused
+pub returns-in-Err : goal.returns-in-Err
 unfolding event_of
-returns-in-Refused c = rw (← (sym (ap outcome_of c.in-Refused.is) ∙ c.header_with.ensures))
+returns-in-Err c = rw (← (sym (ap outcome_of c.in-Err.is) ∙ c.header_with.ensures))
 
 pub returns-in-Header : goal.returns-in-Header
 unfolding event_of

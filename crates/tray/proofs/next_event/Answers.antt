@@ -2,7 +2,8 @@
 use mathlib.Core.Path.{◌≡◌, sym, ap, ◌∙◌}
 use native.Mathlib.Omega.{arith}
 use Rattle.refusal.specs.Outcome.{ok}
-use Rattle.tray_header.specs.Header.{read_tray_header, outcome_of}
+use Rattle.refusal.specs.Number.{outcome_of}
+use Rattle.tray_header.specs.Header.{read_tray_header}
 use Rattle.tray_header.proofs.Found.{whole}
 use Rattle.tray_scan.specs.Scan.{end_in}
 use Rattle.tray.specs.Scan.{next_event}
@@ -19,9 +20,9 @@ slice_bounds-event_end-count c = omega (arith, (whole 4096 6 _ (header (goal.at.
 pub slice_bounds-event_end-start : goal.slice_bounds-event_end-start
 slice_bounds-event_end-start c = omega (arith, (whole 4096 6 _ (header (goal.at.slice_bounds-event_end-start c).In-Header)).size)
 
-pub returns-in-Refused : goal.returns-in-Refused
+pub returns-in-Err : goal.returns-in-Err
 unfolding next_event
-returns-in-Refused c = rw (← (sym (ap outcome_of c.in-Refused.is) ∙ c.read_tray_header.ensures))
+returns-in-Err c = rw (← (sym (ap outcome_of c.in-Err.is) ∙ c.read_tray_header.ensures))
 
 pub returns-in-Header : goal.returns-in-Header
 unfolding next_event

@@ -2,8 +2,8 @@
 use borrow.Author.Rules.{rules}
 use Rattle.tray.proofs.place_or_end.Goals as goal
 
-pub returns-in-Refused : goal.returns-in-Refused
-returns-in-Refused c = search rules
+pub returns-in-Err : goal.returns-in-Err
+returns-in-Err c = search rules
 
 pub returns-in-Count : goal.returns-in-Count
 returns-in-Count c = search rules

@@ -2,8 +2,8 @@
 use mathlib.Core.Path.{◌≡◌, sym, ap, ◌∙◌}
 use native.Mathlib.Omega.{arith}
 use Rattle.refusal.specs.Outcome.{ok}
+use Rattle.refusal.specs.Number.{outcome_of}
 use Rattle.lists.proofs.Left.{left_refused, left_same}
-use Rattle.tray_header.specs.Header.{outcome_of}
 use Rattle.tray.specs.Scan.{header_with}
 use Rattle.tray.proofs.Headers.{with_size, no_run, in_run, run_is}
 use borrow.Author.Rules.{rules}
@@ -19,8 +19,8 @@ slice_bounds-scan_at-count c = omega (arith, with_size 4096 6 _ _ (header (goal.
 pub slice_bounds-scan_at-start : goal.slice_bounds-scan_at-start
 slice_bounds-scan_at-start c = omega (arith, with_size 4096 6 _ _ (header (goal.at.slice_bounds-scan_at-start c).In-Header))
 
-pub returns-in-Refused : goal.returns-in-Refused
-returns-in-Refused c = left_refused (no_run 4096 6 c.args.tray.now _ _ _ (sym (ap outcome_of c.in-Refused.is) ∙ c.header_with.ensures))
+pub returns-in-Err : goal.returns-in-Err
+returns-in-Err c = left_refused (no_run 4096 6 c.args.tray.now _ _ _ (sym (ap outcome_of c.in-Err.is) ∙ c.header_with.ensures))
 
 pub returns-in-Header : goal.returns-in-Header
 returns-in-Header c =

@@ -9,10 +9,10 @@ use Rattle.tray_scan.proofs.scan_at.Goals as goal
 pub write_scan-requires : goal.write_scan-requires
 write_scan-requires c = rw c.in-At.is at c.find_scan.ensures.count_holds_in
 
-pub returns-in-Refused : goal.returns-in-Refused
-returns-in-Refused c =
+pub returns-in-Err : goal.returns-in-Err
+returns-in-Err c =
     let event = c.find_event-event in
-    let a = c.args in record { left_lists_and_pairs = left_refused (not_found a.h a.k a.at a.run.now event.result event.ensures (sym (ap (outcome_of_scan_places a.run.now) c.in-Refused.is) ∙ c.find_scan.ensures.result_value) _); next_value = c.next_place-next.ensures ∙ next_is a.h a.at a.run.now event.result event.ensures }
+    let a = c.args in record { left_lists_and_pairs = left_refused (not_found a.h a.k a.at a.run.now event.result event.ensures (sym (ap (outcome_of_scan_places a.run.now) c.in-Err.is) ∙ c.find_scan.ensures.result_value) _); next_value = c.next_place-next.ensures ∙ next_is a.h a.at a.run.now event.result event.ensures }
 
 pub returns-in-At : goal.returns-in-At
 returns-in-At c =

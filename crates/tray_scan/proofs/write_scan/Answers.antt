@@ -5,8 +5,8 @@ use native.Mathlib.Omega.{arith}
 use mathlib.Core.Bool.{true}
 use mathlib.Core.List.{[], ◌∷◌}
 use lib.ListN.{length, length-take}
+use Rattle.refusal.specs.Number.{outcome_of}
 use Rattle.lists.specs.Left.{fits}
-use Rattle.event_record.specs.Event.{outcome_of}
 use Rattle.tray_scan.proofs.Writing.{no_pairs, no_lists, within, all_written}
 use borrow.Author.Rules.{rules}
 use Rattle.tray_scan.proofs.write_scan.Goals as goal
@@ -29,9 +29,9 @@ slice_bounds-data_pairs-end c = front (goal.at.slice_bounds-data_pairs-end c).In
 pub slice_bounds-data_pairs-end-in-Event : goal.slice_bounds-data_pairs-end-in-Event
 slice_bounds-data_pairs-end-in-Event c = sym (simp length-take (omega (arith, front (goal.at.slice_bounds-data_pairs-end-in-Event c).In-Event)))
 
-pub returns-in-Refused : goal.returns-in-Refused
-returns-in-Refused c =
-    no_lists c.args.run.now c.args.p c.requires c.pair_count-pairs.ensures _ _ _ _ _ _ (rw (← c.holds.ensures, ← c.holds-2.ensures) c.if-holds.true) (rw (ap outcome_of c.in-Refused.is) at c.write_event.ensures)
+pub returns-in-Err : goal.returns-in-Err
+returns-in-Err c =
+    no_lists c.args.run.now c.args.p c.requires c.pair_count-pairs.ensures _ _ _ _ _ _ (rw (← c.holds.ensures, ← c.holds-2.ensures) c.if-holds.true) (rw (ap outcome_of c.in-Err.is) at c.write_event.ensures)
 
 pub returns-in-Event : goal.returns-in-Event
 returns-in-Event c =
