@@ -12,7 +12,7 @@ use Rattle.parser.proofs.Prefix.{within_parsed, parse_bind, bind_parsed}
 use Rattle.parser.proofs.Answered.{found, ran_out_lem}
 use Rattle.packet_header.specs.Header.{header, read_packet_header}
 use Rattle.packet_header.specs.declared.PacketHeader.{PacketHeader}
-use Rattle.packet_header.proofs.Size.{header_sized, header_read, header_ran_out}
+use Rattle.packet_header.proofs.Size.{header_sized, header_read}
 use Rattle.lists.specs.Left.{pairs_if_fit}
 use Rattle.peaks.specs.Peaks.{Peak, peaks_at}
 use Rattle.packet_peak_list.specs.PeakList.{item_size, peak_list, list_place, read_peaks, skipping, after_skipped, skip_to_peaks, read_peaks_only}
@@ -32,9 +32,9 @@ unfoldable pub rest : PacketHeader → Parser (PacketHeader × List Peak)
 rest h = skip (h.profile_size * 4) >> (peak_list h >>= paired h)
 
 module _ (s : List ℕ) (at : ℕ) where
-  pub skip_header_short : {n : ℕ} {carries : List ℕ} → refused n carries ≡ read_packet_header at s → ran_out 4 ≡ skip_to_peaks at s
-  unfolding skip_to_peaks outcome skipping rest
-  skip_header_short e = rw (parse_bind header rest s at, header_ran_out s at e)
+  pub skip_header_short : {n : ℕ} {carries : List ℕ} → refused n carries ≡ read_packet_header at s → refused n carries ≡ skip_to_peaks at s
+  unfolding skip_to_peaks read_packet_header outcome skipping rest
+  skip_header_short e = let w = ran_out_lem 4 at header (λ (v : PacketHeader) _. v) s e in rw (w.one, w.part, parse_bind header rest s at, w.there)
 
   module _ {h : PacketHeader} (e : ok h ≡ read_packet_header at s) where
     to_rest : parse skipping s at ≡ parse (rest h) s (at + 40)
@@ -50,11 +50,11 @@ module _ (s : List ℕ) (at : ℕ) where
       unfolding rest parse
       to_list = to_rest ∙ rw (le-leb _ _ t)
 
-      pub skip_list_short : {n : ℕ} {carries : List ℕ} → refused n carries ≡ read_peaks h (at + 40 + h.profile_size * 4) s → ran_out 4 ≡ skip_to_peaks at s
+      pub skip_list_short : {n : ℕ} {carries : List ℕ} → refused n carries ≡ read_peaks h (at + 40 + h.profile_size * 4) s → refused n carries ≡ skip_to_peaks at s
       unfolding skip_to_peaks outcome read_peaks
       skip_list_short f =
-          let none = (ran_out_lem 4 (at + 40 + h.profile_size * 4) (peak_list h) (λ ps _. list_place h (after_skipped h at) ps) s f).there in
-          rw (to_list, parse_bind (peak_list h) (paired h) s (at + 40 + h.profile_size * 4), none)
+          let w = ran_out_lem 4 (at + 40 + h.profile_size * 4) (peak_list h) (λ ps _. list_place h (after_skipped h at) ps) s f in
+          rw (w.one, w.part, to_list, parse_bind (peak_list h) (paired h) s (at + 40 + h.profile_size * 4), w.there)
 
       pub skip_found : {l : PeakList} → ok l ≡ read_peaks h (at + 40 + h.profile_size * 4) s → ok (record { header = h; list = l }) ≡ skip_to_peaks at s
       unfolding skip_to_peaks outcome read_peaks parse

@@ -84,18 +84,23 @@ pub fn skip_to_peaks(run: &[u8], at: u64) -> Result<HeaderAndPeaks, Refusal>
 }
 
 // The peaks of the packet at a place of the run, and nothing else of it.
-pub fn read_peaks_only(run: &[u8], at: u64, mz: &mut [u64], abundance: &mut [u32]) -> Result<u64, Refusal>
+pub fn read_peaks_only(
+    run: &[u8],
+    at: u64,
+    mz: &mut [u64],
+    abundance: &mut [u32],
+) -> Result<u64, Refusal>
     ensures { LeftPairs (λ m a. read_peaks_only m a at run.now) mz.old abundance.old result mz.new abundance.new }
 {
     let p = skip_to_peaks(run, at)?;
-let list = p.list;
-            write_peaks(
-                run,
-                list.at,
-                item_size(list.wide),
-                list.count,
-                list.wide,
-                mz,
-                abundance,
-            )
+    let list = p.list;
+    write_peaks(
+        run,
+        list.at,
+        item_size(list.wide),
+        list.count,
+        list.wide,
+        mz,
+        abundance,
+    )
 }

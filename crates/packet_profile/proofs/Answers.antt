@@ -1,7 +1,9 @@
 -- What reading a profile answers, by the tests that decide it.
 use Rattle.std.specs.Prelude.{Ok, Err}
 use Rattle.refusal.specs.declared.Part.TheVariants.{Data}
+use Rattle.refusal.specs.declared.Refusal.{Refusal}
 use Rattle.refusal.specs.declared.Refusal.TheVariants.{Short}
+use Rattle.refusal.specs.Number.{outcome_of_refusal}
 use mathlib.Core.Path.{◌≡◌, refl, ap, sym, ◌∙◌}
 use Prim.Native.Nat.{ℕ, ◌+◌, ◌*◌, ◌≤◌, ◌<◌}
 use native.Mathlib.Nat.{add-zero}
@@ -50,9 +52,9 @@ listed (parsed cs end) w next h =
     let same : ◌≡◌ {A = ChunkList} (record { points = w; next = next }) (record { points = sum points cs; next = end }) = cc in
     record { list = cs; there = ap (parsed cs) (sym (ap (λ (c : ChunkList). c.next) same)); holds = sym (ap (λ (c : ChunkList). c.points) same) }
 
-unlisted : (o : Parsed (List Chunk)) → Err (Short Data) ≡ chunks_answer o → o ≡ short
-unlisted short h = refl
-unlisted (parsed cs end) h = let c : ◌≡◌ {A = ℕ} 0 1 = cc in absurd (omega arith)
+unlisted : (r : Refusal) (o : Parsed (List Chunk)) → Err r ≡ chunks_answer o → (o ≡ short) × (r ≡ Short Data)
+unlisted r short h = (refl, cc)
+unlisted r (parsed cs end) h = let c : ◌≡◌ {A = ℕ} 0 1 = cc in absurd (omega arith)
 
 module _ (layout : ℕ) (s : List ℕ) (at : ℕ) where
   to_chunks : (count : ℕ) → count ≡ little_endian (bytes s (at + 16) 4)
@@ -80,11 +82,13 @@ module _ (layout : ℕ) (s : List ℕ) (at : ℕ) where
       unfolding counted parse list
       is_list = rw (le-leb _ _ u)
 
-      pub short_chunks : (fudged : Bool) → fudged ≡ is_fudged layout → Err (Short Data) ≡ chunks_answer (parse (repeat count (chunk fudged)) s (at + 24)) → ran_out 4 ≡ read_profile layout at s
+      pub short_chunks : (fudged : Bool) → fudged ≡ is_fudged layout → (r : Refusal) → Err r ≡ chunks_answer (parse (repeat count (chunk fudged)) s (at + 24))
+          → outcome_of_refusal r ≡ read_profile layout at s
       unfolding read_profile outcome rest list
-      short_chunks fudged f i =
+      short_chunks fudged f r i =
           let j = rw f at i in
-          rw (to_list, parse_bind (chunks (is_fudged layout) count) (paired (axis_at s at count)) s (at + 24), is_list, unlisted list j)
+          let u = unlisted r list j in
+          rw (to_list, parse_bind (chunks (is_fudged layout) count) (paired (axis_at s at count)) s (at + 24), is_list, u.0, u.1)
 
       pub whole_profile : (fudged : Bool) → fudged ≡ is_fudged layout → (c : ChunkList) → Ok c ≡ chunks_answer (parse (repeat count (chunk fudged)) s (at + 24))
           → ok (

@@ -4,6 +4,11 @@ use Prim.Native.Nat.{ℕ, ◌+◌, ◌*◌, ◌≤◌, ◌<◌}
 use mathlib.Core.Bool.{Bool}
 use mathlib.Core.List.{List}
 use Rattle.refusal.specs.Outcome.{ok, refused, ran_out}
+use Rattle.refusal.specs.Number.{outcome_of_refusal}
+use Rattle.refusal.specs.declared.Part.TheVariants.{Data}
+use Rattle.refusal.specs.declared.Refusal.{Refusal}
+use Rattle.refusal.specs.declared.Refusal.TheVariants.{Short}
+use Rattle.refusal.proofs.OneAnswer.{refusal_one}
 use Rattle.lists.proofs.Laws.{length-each}
 use Rattle.parser.specs.Parser.{short, parsed, bytes, little_endian, remaining, parse}
 use Rattle.parser.specs.Call.{outcome}
@@ -53,3 +58,10 @@ module _ (fudged : Bool) (s : List ℕ) (at : ℕ) where
   pub missing : {n : ℕ} {carries : List ℕ} → refused n carries ≡ find_signal fudged at s → parse (chunk fudged) s at ≡ short
   unfolding find_signal
   missing h = (ran_out_lem 4 at (chunk fudged) signal_of s h).there
+
+  -- and no other part ran out
+  pub missing_is : (r : Refusal) → outcome_of_refusal r ≡ find_signal fudged at s → r ≡ Short Data
+  unfolding find_signal
+  missing_is r h =
+      let o = ran_out_lem 4 at (chunk fudged) signal_of s h in
+      refusal_one {A = Signal} r (Short Data) (rw (o.one, o.part) refl)
