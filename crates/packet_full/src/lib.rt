@@ -92,9 +92,8 @@ fn write_profile(
     ensures { bins.new ∷ counts.new ∷ fudges.new ∷ signal.new ∷ []
         ≡ over_all (chunk_lists (found_chunks profile run.now)) (bins.old ∷ counts.old ∷ fudges.old ∷ signal.old ∷ []) }
 {
-    match profile {
-        None => {}
-        Some(p) => write_chunks(run, p, bins, counts, fudges, signal),
+    if let Some(p) = profile {
+        write_chunks(run, p, bins, counts, fudges, signal);
     }
 }
 
@@ -117,18 +116,17 @@ pub fn read_packet(
         (mz.new ∷ abundance.new ∷ descriptors.new ∷ resolutions.new ∷ bins.new ∷ counts.new ∷ fudges.new ∷ signal.new ∷ []) }
 {
     let places = find_places(run, at)?;
-let profile = places.profile;
-            if chunks_fit(
-                profile,
-                bins.len() as u64,
-                counts.len() as u64,
-                fudges.len() as u64,
-                signal.len() as u64,
-            ) {
-                let packet = write_packet(run, places, mz, abundance, descriptors, resolutions)?;
-write_profile(run, profile, bins, counts, fudges, signal);
-                        Ok(packet)
-            } else {
-                Err(Refusal::NoRoom)
-            }
+    let profile = places.profile;
+    if !chunks_fit(
+        profile,
+        bins.len() as u64,
+        counts.len() as u64,
+        fudges.len() as u64,
+        signal.len() as u64,
+    ) {
+        return Err(Refusal::NoRoom);
+    }
+    let packet = write_packet(run, places, mz, abundance, descriptors, resolutions)?;
+    write_profile(run, profile, bins, counts, fudges, signal);
+    Ok(packet)
 }

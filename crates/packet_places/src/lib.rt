@@ -26,7 +26,7 @@ fn find_profile(run: &[u8], at: u64, h: PacketHeader) -> Result<(Option<Profile>
         return Ok((None, at + 40));
     }
     let (p, next) = Profile::read(run, at + 40, h.layout)?;
-Ok((Some(p), next))
+    Ok((Some(p), next))
 }
 
 fn after_header(run: &[u8], at: u64, h: PacketHeader) -> Result<PacketPlaces, Refusal>
@@ -34,8 +34,8 @@ fn after_header(run: &[u8], at: u64, h: PacketHeader) -> Result<PacketPlaces, Re
     ensures { on_ok (λ v. (v, streams_at run.now v.labels)) (outcome_of result) ≡ after_header h at run.now }
 {
     let (profile, next) = find_profile(run, at, h)?;
-let list = read_peaks(run, next, h)?;
-with_labels(run, h, profile, list)
+    let list = read_peaks(run, next, h)?;
+    with_labels(run, h, profile, list)
 }
 
 // Where the parts of the packet at a place of the run stand.
@@ -43,5 +43,5 @@ pub fn find_places(run: &[u8], at: u64) -> Result<PacketPlaces, Refusal>
     ensures { on_ok (λ v. (v, contents_at run.now v)) (outcome_of result) ≡ find_places at run.now }
 {
     let h = PacketHeader::read(run, at)?;
-after_header(run, at, h)
+    after_header(run, at, h)
 }

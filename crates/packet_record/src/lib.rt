@@ -51,12 +51,12 @@ pub fn with_labels(
     ensures { on_ok (λ v. (v, streams_at run.now v.labels)) (outcome_of result) ≡ with_labels header profile list run.now }
 {
     let labels = read_labels(run, list.next, header, list.count)?;
-Ok(PacketPlaces {
-            header,
-            profile,
-            list,
-            labels,
-        })
+    Ok(PacketPlaces {
+        header,
+        profile,
+        list,
+        labels,
+    })
 }
 
 // A packet's peaks and labels, over the fronts of slices that hold them.

@@ -23,8 +23,6 @@ pub fn read_skip_profile(
         (with_nodes run.now result) (mz.new ∷ abundance.new ∷ descriptors.new ∷ resolutions.new ∷ []) }
 {
     let p = skip_to_peaks(run, at)?;
-let header = p.header;
-            let list = p.list;
-            let places = with_labels(run, header, None, list)?;
-write_packet(run, places, mz, abundance, descriptors, resolutions)
+    let places = with_labels(run, p.header, None, p.list)?;
+    write_packet(run, places, mz, abundance, descriptors, resolutions)
 }

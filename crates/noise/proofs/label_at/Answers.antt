@@ -6,6 +6,6 @@ pub returns-in-None : goal.returns-in-None
 returns-in-None c =
     rw (← c.f64_of_bits.ensures, sym c.noise_at-answer.ensures ∙ c.in-None.is)
 
-pub returns-in-Values : goal.returns-in-Values
-returns-in-Values c =
-    rw (← c.f64_of_bits.ensures, sym c.noise_at-answer.ensures ∙ c.in-Values.is)
+pub returns-in-Some : goal.returns-in-Some
+returns-in-Some c =
+    rw (← c.f64_of_bits.ensures, sym c.noise_at-answer.ensures ∙ c.in-Some.is)

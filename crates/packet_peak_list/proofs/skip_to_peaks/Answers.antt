@@ -32,7 +32,7 @@ overflow_add-at-then-profile-remaining-2 c =
 pub returns-in_err-list : goal.returns-in_err-list
 returns-in_err-list c =
     let a = c.args in
-    let p = err_from_is_err_and c.from_residual.result c.from_residual.ensures.1 in
+    let p = err_from_is_err_and c.from_residual-in_err-list.result c.from_residual-in_err-list.ensures.1 in
     rw (p.1, p.2)
     (skip_list_short a.run.now a.at (sym (ap outcome_of c.in_ok-h.was) ∙ c.read.ensures) (omega (arith, c.remaining.ensures, c.if-profile-remaining.true)) (sym (ap outcome_of c.in_err-list.was) ∙ c.read_peaks.ensures))
 

@@ -1,6 +1,7 @@
 -- The header, and what follows it.
 use mathlib.Core.Path.{sym, ap, ◌∙◌}
 use Rattle.refusal.specs.Number.{outcome_of}
+use Rattle.std.proofs.lemmas.Result.{err_from_is_err_and}
 use Rattle.packet_header.proofs.Size.{header_read}
 use Rattle.refusal.specs.Outcome.{and_then}
 use Rattle.packet_places.specs.Internal.{after_header, in_turn}
@@ -10,17 +11,19 @@ use Rattle.packet_places.proofs.find_places.Goals as goal
 pub after_header-requires : goal.after_header-requires
 after_header-requires c =
     let a = c.args in
-    (header_read a.run.now a.at (sym (ap outcome_of c.in-Header.is) ∙ c.read.ensures)).0
+    (header_read a.run.now a.at (sym (ap outcome_of c.in_ok-h.was) ∙ c.read.ensures)).0
 
-pub returns-in-Err : goal.returns-in-Err
+pub returns-in_err-h : goal.returns-in_err-h
 unfolding in_turn
-returns-in-Err c =
+returns-in_err-h c =
     let a = c.args in
-    no_packet a.run.now a.at (ap (λ o. and_then o (λ h. after_header h a.at a.run.now)) (sym (ap outcome_of c.in-Err.is) ∙ c.read.ensures))
+    let p = err_from_is_err_and c.from_residual.result c.from_residual.ensures.1 in
+    rw (p.1, p.2)
+    (no_packet a.run.now a.at (ap (λ o. and_then o (λ h. after_header h a.at a.run.now)) (sym (ap outcome_of c.in_err-h.was) ∙ c.read.ensures)))
 
-pub returns-in-Header : goal.returns-in-Header
+pub returns : goal.returns
 unfolding in_turn
-returns-in-Header c =
+returns c =
     let a = c.args in
     by_stages a.run.now a.at (outcome_of c.after_header.result)
-    (c.after_header.ensures ∙ ap (λ o. and_then o (λ h. after_header h a.at a.run.now)) (sym (ap outcome_of c.in-Header.is) ∙ c.read.ensures))
+    (c.after_header.ensures ∙ ap (λ o. and_then o (λ h. after_header h a.at a.run.now)) (sym (ap outcome_of c.in_ok-h.was) ∙ c.read.ensures))
