@@ -17,7 +17,7 @@ module _ (s : List ℕ) (at n : ℕ) where
   unfolding parse
   word_there h e = rw (le-leb _ _ h, e)
 
-  pub word_short : remaining s at < n → outcome_of {A = ℕ} (Err r) ≡ reads (parse (word n) s at)
+  pub word_short : remaining s at < n → outcome_of {A = ℕ} (Err (record {})) ≡ reads (parse (word n) s at)
   unfolding parse
   word_short h = rw (lt-leb _ _ h)
 
@@ -25,7 +25,7 @@ module _ (s : List ℕ) (at n : ℕ) where
   unfolding parse
   skip_there h = rw (le-leb _ _ h)
 
-  pub skip_short : remaining s at < n → outcome_of {A = Unit {0}} (Err r) ≡ reads (parse (skip n) s at)
+  pub skip_short : remaining s at < n → outcome_of {A = Unit {0}} (Err (record {})) ≡ reads (parse (skip n) s at)
   unfolding parse
   skip_short h = rw (lt-leb _ _ h)
 
@@ -47,7 +47,7 @@ module _ (s : List ℕ) (at n size : ℕ) where
   unfolding parse
   count_there h = rw (le-leb _ _ h)
 
-  pub count_short : remaining s at < n * size → outcome_of {A = Unit {0}} (Err r) ≡ reads (parse (check_count n size) s at)
+  pub count_short : remaining s at < n * size → outcome_of {A = Unit {0}} (Err (record {})) ≡ reads (parse (check_count n size) s at)
   unfolding parse
   count_short h = rw (lt-leb _ _ h)
 
