@@ -48,6 +48,22 @@ node mz noise baseline = record { mz = bits32 mz; noise = bits32 noise; baseline
 abbrev nodes : List NodeBits
 nodes = node 100 1 3 ∷ node 200 2 5 ∷ []
 
+-- halfway between the nodes, by numbers: the kernel reaches its step limit on a pair of terms
+halfway_bits : noise_at (whole 150) nodes ≡ Some (0x3fc0_0000, 0x4080_0000)
+unfolding of_int round is_nan of_bits to_bits add sub mul div lt le narrow noise_of past between fraction
+halfway_bits = refl
+
+three_halves_bits : to_bits binary32 three_halves ≡ 0x3fc0_0000
+unfolding to_bits
+three_halves_bits = refl
+
+four_bits : bits32 4 ≡ 0x4080_0000
+unfolding of_int round to_bits
+four_bits = refl
+
+halfway : noise_at (whole 150) nodes ≡ Some (to_bits binary32 three_halves, bits32 4)
+halfway = rw (three_halves_bits, four_bits) halfway_bits
+
 -- a and b are coefficients that don't count, and cs are any at all. L2: noise at NaN is none
 pub table : (a b : ℕ) (cs : List ℕ)
     → (size_for_version 8 ≡ 41)
@@ -59,9 +75,9 @@ pub table : (a b : ℕ) (cs : List ℕ)
     × (freq_to_mz (whole 2) (a ∷ bits 1 ∷ bits 2 ∷ bits 4 ∷ []) ≡ whole 3)
     × (freq_to_mz (whole 2) (a ∷ b ∷ bits 1 ∷ bits 4 ∷ bits 16 ∷ []) ≡ whole 3)
     × (freq_to_mz minus_zero cs ≡ whole 0)
-    × (noise_at (whole 50) nodes ≡ Some ((bits32 1), (bits32 3)))
-    × (noise_at (whole 150) nodes ≡ Some ((to_bits binary32 three_halves), (bits32 4)))
+    × (noise_at (whole 50) nodes ≡ Some (bits32 1, bits32 3))
+    × (noise_at (whole 150) nodes ≡ Some (to_bits binary32 three_halves, bits32 4))
     × (noise_at nan nodes ≡ None)
     × (ten_thousandths mass ≡ ok 5000313)
 unfolding of_int round is_nan of_bits to_bits add sub mul div eq lt le size_for_version lowest largest_mass freq_to_mz narrow noise_of past between fraction scaled ten_thousandths
-table a b cs = (refl, refl, refl, refl, refl, refl, refl, refl, refl, refl, refl, refl, refl)
+table a b cs = (refl, refl, refl, refl, refl, refl, refl, refl, refl, refl, halfway, refl, refl)
