@@ -3,10 +3,10 @@ use mathlib.Core.Path.{◌≡◌, ap, ◌∙◌}
 use Prim.Native.Nat.{ℕ, ◌+◌, ◌≤◌, ◌<◌}
 use mathlib.Core.List.{List}
 use Rattle.refusal.specs.Outcome.{ok, refused, ran_out}
-use Rattle.parser.specs.Parser.{short, parsed, remaining, parse}
+use Rattle.parser.specs.Parser.{parsed, remaining, parse}
 use Rattle.parser.specs.Internal.{Sized, value}
 use Rattle.parser.proofs.Records.{record_short, record_whole, sized_read}
-use Rattle.parser.proofs.Answered.{found, ran_out_lem}
+use Rattle.parser.proofs.Answered.{found, RanOut, ran_out_lem}
 use Rattle.packet_header.specs.Header.{header, read_packet_header}
 use Rattle.packet_header.specs.declared.PacketHeader.{PacketHeader}
 
@@ -31,6 +31,6 @@ module _ (s : List ℕ) (at : ℕ) where
       let w = sized_read 40 header header_sized s at f.there in
       (w.0, f.there ∙ cc (f.made, w.2))
 
-  pub header_ran_out : {n : ℕ} {carries : List ℕ} → refused n carries ≡ read_packet_header at s → parse header s at ≡ short
+  pub header_ran_out : {n : ℕ} {carries : List ℕ} → refused n carries ≡ read_packet_header at s → RanOut 4 header s at n carries
   unfolding read_packet_header
-  header_ran_out e = (ran_out_lem 4 at header (λ (v : PacketHeader) _. v) s e).there
+  header_ran_out e = ran_out_lem 4 at header (λ (v : PacketHeader) _. v) s e

@@ -31,4 +31,3 @@ header = do
 -- what `PacketHeader::read` answers: the header, or that the data, part 4, ran out
 unfoldable pub read_packet_header : ℕ → List ℕ → Outcome PacketHeader
 read_packet_header at run = outcome (single 4 at header (λ h _. ok h)) run
-

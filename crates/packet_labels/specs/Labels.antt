@@ -57,4 +57,3 @@ streams_at s l =
 -- what `read_labels` answers, with what stands there
 unfoldable pub read_labels : PacketHeader → ℕ → ℕ → List ℕ → Outcome (Labels × Streams)
 read_labels h n at run = outcome (single 4 at (labels h n) (λ l _. ok (label_places h at l, l))) run
-

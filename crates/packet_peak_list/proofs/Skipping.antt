@@ -12,7 +12,7 @@ use Rattle.parser.proofs.Prefix.{within_parsed, parse_bind, bind_parsed}
 use Rattle.parser.proofs.Answered.{found, ran_out_lem}
 use Rattle.packet_header.specs.Header.{header, read_packet_header}
 use Rattle.packet_header.specs.declared.PacketHeader.{PacketHeader}
-use Rattle.packet_header.proofs.Size.{header_sized, header_read}
+use Rattle.packet_header.proofs.Size.{header_sized, header_read, header_ran_out}
 use Rattle.lists.specs.Left.{pairs_if_fit}
 use Rattle.peaks.specs.Peaks.{Peak, peaks_at}
 use Rattle.packet_peak_list.specs.PeakList.{item_size, peak_list, list_place, read_peaks, skipping, after_skipped, skip_to_peaks, read_peaks_only}
@@ -33,8 +33,8 @@ rest h = skip (h.profile_size * 4) >> (peak_list h >>= paired h)
 
 module _ (s : List ℕ) (at : ℕ) where
   pub skip_header_short : {n : ℕ} {carries : List ℕ} → refused n carries ≡ read_packet_header at s → refused n carries ≡ skip_to_peaks at s
-  unfolding skip_to_peaks read_packet_header outcome skipping rest
-  skip_header_short e = let w = ran_out_lem 4 at header (λ (v : PacketHeader) _. v) s e in rw (w.one, w.part, parse_bind header rest s at, w.there)
+  unfolding skip_to_peaks outcome skipping rest
+  skip_header_short e = let w = header_ran_out s at e in rw (w.one, w.part, parse_bind header rest s at, w.there)
 
   module _ {h : PacketHeader} (e : ok h ≡ read_packet_header at s) where
     to_rest : parse skipping s at ≡ parse (rest h) s (at + 40)

@@ -15,7 +15,7 @@ use Rattle.parser.proofs.Prefix.{parse_bind, bind_parsed}
 use Rattle.parser.proofs.Answered.{found, RanOut, ran_out_lem}
 use Rattle.packet_header.specs.Header.{header, read_packet_header}
 use Rattle.packet_header.specs.declared.PacketHeader.{PacketHeader}
-use Rattle.packet_header.proofs.Size.{header_read}
+use Rattle.packet_header.proofs.Size.{header_read, header_ran_out}
 use Rattle.peaks.specs.Peaks.{Peak, peaks_at}
 use Rattle.packet_peak_list.specs.PeakList.{item_size, peak_list, list_place, read_peaks}
 use Rattle.packet_peak_list.specs.declared.PeakList.{PeakList}
@@ -103,9 +103,9 @@ module _ (s : List ℕ) (at : ℕ) where
   to_rest e = parse_bind header rest s at ∙ rw (header_read s at e).1
 
   pub header_short : {n : ℕ} {carries : List ℕ} → refused n carries ≡ read_packet_header at s → RanOut 4 packet s at n carries
-  unfolding packet rest after_profile read_packet_header
+  unfolding packet rest after_profile
   header_short e =
-      let r = ran_out_lem 4 at header (λ (v : PacketHeader) _. v) s e in
+      let r = header_ran_out s at e in
       record { there = parse_bind header rest s at ∙ rw r.there; one = r.one; part = r.part }
 
   module _ (h : PacketHeader) (e : ok h ≡ read_packet_header at s) where

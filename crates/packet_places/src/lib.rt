@@ -17,7 +17,7 @@ use packet_profile::Profile;
 use packet_record::{PacketPlaces, with_labels};
 use refusal::Refusal;
 
-// The profile of the packet at a place, whose header is there.
+// The profile of the packet at a place, whose header is there, if it has one; and the place after it.
 fn find_profile(run: &[u8], at: u64, h: PacketHeader) -> Result<(Option<Profile>, u64), Refusal>
     requires { 40 ≤ remaining run.now at }
     ensures { outcome_of result ≡ find_profile h at run.now }

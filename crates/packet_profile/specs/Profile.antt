@@ -87,4 +87,3 @@ profile_record layout at p =
 -- what `Profile::read` answers: the profile, and the place after it
 unfoldable pub read_profile : ℕ → ℕ → List ℕ → Outcome (Profile × ℕ)
 read_profile layout at run = outcome (single 4 at (profile layout) (λ p next. ok (profile_record layout at p, next))) run
-

@@ -103,7 +103,7 @@ fn pass_chunks(run: &[u8], start: u64, fudged: bool, count: u32) -> Result<Chunk
 }
 
 impl Profile {
-    // The profile at a place of the run, in a packet of this layout.
+    // The profile at a place of the run, in a packet of this layout, and the place after it.
     pub fn read(run: &[u8], at: u64, layout: u32) -> Result<(Profile, u64), Refusal>
         ensures { outcome_of result ≡ read_profile layout at run.now }
     {

@@ -1,6 +1,6 @@
 -- What a packet holds, where it stands, and what is handed out of it (`ScanDataPacket` of scan_data.rs).
 use Rattle.std.specs.Prelude.{ℕ, ◌+◌, ◌*◌, List, [], ◌∷◌, ◌++◌, length, Some, None, Option, Result}
-use Rattle.refusal.specs.Outcome.{Outcome, ok, on_ok}
+use Rattle.refusal.specs.Outcome.{Outcome, on_ok}
 use Rattle.refusal.specs.Number.{outcome_of}
 use Rattle.refusal.specs.declared.Refusal.{Refusal}
 use Rattle.lists.specs.Left.{firsts, seconds, lists_if_fit}

@@ -20,6 +20,7 @@ use refusal::Refusal;
 #[derive(Clone, Copy)]
 pub struct ScanDataPacket {
     pub header: PacketHeader,
+    // A packet without a profile, or one whose profile is passed over, has none.
     pub profile: Option<Profile>,
     // How much of each lent slice was written; peaks counts masses and abundances alike.
     pub peaks: u64,
