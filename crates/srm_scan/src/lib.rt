@@ -51,11 +51,17 @@ pub fn read_scan_srm_v66(
     ensures { LeftPairs (λ m a. read_srm_peaks m a «data» offset run.now) mz.old abundance.old result mz.new abundance.new }
 {
     let (place, count) = find_srm_peaks(run, data, offset)?;
-write_peaks(run, place, 12, count, false, mz, abundance)
+    write_peaks(run, place, 12, count, false, mz, abundance)
 }
 
 // n windows, where the slices hold them.
-fn write_windows(run: &[u8], at: u64, n: u64, low: &mut [u32], high: &mut [u32]) -> Result<u64, Refusal>
+fn write_windows(
+    run: &[u8],
+    at: u64,
+    n: u64,
+    low: &mut [u32],
+    high: &mut [u32],
+) -> Result<u64, Refusal>
     requires { at ≤ length run.now + 28 }
     ensures { LeftPairs (λ l h. pairs_if_fit l h (windows_at run.now at n)) low.old high.old result low.new high.new }
 {
@@ -79,5 +85,5 @@ pub fn read_scan_srm_v66_windows(
 {
     let at = saturating_add(data, offset);
     let n = count_channels(run, at, 8)?;
-write_windows(run, at + 32, n, low, high)
+    write_windows(run, at + 32, n, low, high)
 }
