@@ -6,7 +6,12 @@ use mathlib.Core.List.{List, [], ◌∷◌}
 use lib.Dec.{leb, ltb}
 use lib.ListN.{length}
 use borrow.Author.Tests.{le-leb, lt-leb}
-use Rattle.refusal.specs.Outcome.{Outcome, ok, refused, ran_out}
+use Rattle.std.specs.Prelude.{Option, Some, None, Result, Ok, Err}
+use Rattle.std.specs.Option.{ok_or}
+use Rattle.refusal.specs.declared.Refusal.{Refusal}
+use Rattle.refusal.specs.declared.Refusal.TheVariants.{UnrecognizedScanRecord}
+use Rattle.refusal.specs.Number.{outcome_of_refusal, outcome_of}
+use Rattle.refusal.specs.Outcome.{Outcome, ok, refused}
 use Rattle.refusal.proofs.Outcomes.{ok_not_refused, refused_not_ok}
 use Rattle.lists.specs.Left.{pairs_if_fit}
 use Rattle.lists.proofs.Laws.{each_none}
@@ -17,9 +22,10 @@ use Rattle.peaks.specs.Peaks.{Peak, peaks_at}
 use Rattle.peaks.proofs.Columns.{length-peaks}
 use Rattle.srm_flat_peaks.specs.Flat.{looks_valid, Attempt, accepted, passed_over, peaks_from, attempt, or_else, attempts, flat_peaks, of_accepted, read_flat_peaks, find_flat_peaks}
 use Rattle.srm_flat_peaks.specs.Internal.{attempt_answer}
-use Rattle.srm_flat_peaks.specs.declared.AttemptAnswer.{AttemptAnswer}
-use Rattle.srm_flat_peaks.specs.declared.AttemptAnswer.TheVariants.{Accepted, PassedOver, RanOut}
 use Rattle.srm_flat_peaks.proofs.Attempts.{parse_from}
+
+abbrev AttemptAnswer : Type 0
+AttemptAnswer = Result (Option (ℕ × ℕ)) Refusal
 
 -- ---- the two attempts
 module _ (end cum_end data_size : ℕ) (s : List ℕ) where
@@ -36,9 +42,9 @@ module _ (end cum_end data_size : ℕ) (s : List ℕ) where
 
   -- the second, where the first was passed over
   abbrev or_next : AttemptAnswer → AttemptAnswer → AttemptAnswer
-  or_next PassedOver j = j
-  or_next (Accepted place count) j = Accepted place count
-  or_next RanOut j = RanOut
+  or_next (Ok None) j = j
+  or_next (Ok (Some found)) j = Ok (Some found)
+  or_next (Err r) j = Err r
 
   both : (at : ℕ) → or_next (attempt_answer (parse (attempt end cum_end data_size 1) s at)) (attempt_answer (parse (attempt end cum_end data_size 2) s at))
       ≡ attempt_answer (parse (attempts end cum_end data_size) s at)
@@ -62,9 +68,14 @@ found_at place peaks = ok (place, length peaks)
 
 -- what a call answers of an attempt
 abbrev pub outcome_of_attempt : AttemptAnswer → Outcome (ℕ × ℕ)
-outcome_of_attempt (Accepted place count) = ok (place, count)
-outcome_of_attempt PassedOver = refused 2 []
-outcome_of_attempt RanOut = ran_out 4
+outcome_of_attempt (Ok (Some found)) = ok found
+outcome_of_attempt (Ok None) = refused 2 []
+outcome_of_attempt (Err r) = outcome_of_refusal r
+
+-- no peaks that were accepted are refusal 2
+pub or_no_peaks : (o : Option (ℕ × ℕ)) → outcome_of (ok_or o UnrecognizedScanRecord) ≡ outcome_of_attempt (Ok o)
+or_no_peaks None = refl
+or_no_peaks (Some found) = refl
 
 outcome_by : (o : Parsed Attempt) → outcome_of_attempt (attempt_answer o) ≡ onward 4 o (λ a _. of_accepted found_at a)
 outcome_by short = refl

@@ -8,6 +8,9 @@ use mathlib.Core.List.{List}
 use lib.Dec.{leb}
 use lib.Ieee.{binary32, of_bits}
 use borrow.Author.Tests.{le-leb, lt-leb, le-ltb, lt-ltb}
+use Rattle.std.specs.Prelude.{Some, None, Ok, Err}
+use Rattle.refusal.specs.declared.Part.TheVariants.{Data}
+use Rattle.refusal.specs.declared.Refusal.TheVariants.{Short}
 use Rattle.lists.proofs.Laws.{each_same, each_cons}
 use Rattle.parser.specs.Parser.{Parser, done, parsed, bytes, little_endian, remaining, within, parse, counted}
 use Rattle.parser.specs.Internal.{Sized, value}
@@ -17,7 +20,6 @@ use Rattle.peaks.proofs.Columns.{length-peaks}
 use Rattle.peaks.proofs.Columns.{widened_same}
 use Rattle.srm_flat_peaks.specs.Flat.{is_plausible, looks_valid, accepted, passed_over, peaks_from, attempt}
 use Rattle.srm_flat_peaks.specs.Internal.{attempt_answer}
-use Rattle.srm_flat_peaks.specs.declared.AttemptAnswer.TheVariants.{Accepted, PassedOver, RanOut}
 
 peak_sized : Sized 8 (peak false)
 unfolding peak
@@ -51,17 +53,17 @@ module _ (s : List ℕ) (place : ℕ) where
 
 -- ---- each way out of an attempt
 module _ (end cum_end data_size subtract : ℕ) (s : List ℕ) (at : ℕ) where
-  pub too_few : data_size ≤ subtract → PassedOver ≡ attempt_answer (parse (attempt end cum_end data_size subtract) s at)
+  pub too_few : data_size ≤ subtract → Ok None ≡ attempt_answer (parse (attempt end cum_end data_size subtract) s at)
   unfolding attempt parse
   too_few t = rw (le-leb _ _ t)
 
   module _ (t : subtract < data_size) where
-    pub too_long : cum_end < (data_size - subtract) * 9 → PassedOver ≡ attempt_answer (parse (attempt end cum_end data_size subtract) s at)
+    pub too_long : cum_end < (data_size - subtract) * 9 → Ok None ≡ attempt_answer (parse (attempt end cum_end data_size subtract) s at)
     unfolding attempt parse
     too_long u = rw (lt-leb _ _ t, lt-ltb _ _ u)
 
     module _ (u : (data_size - subtract) * 9 ≤ cum_end) (place : ℕ) (e : place ≡ end - (data_size - subtract) * 9) where
-      pub runs_out : remaining s place < (data_size - subtract) * 8 → RanOut ≡ attempt_answer (parse (attempt end cum_end data_size subtract) s at)
+      pub runs_out : remaining s place < (data_size - subtract) * 8 → Err (Short Data) ≡ attempt_answer (parse (attempt end cum_end data_size subtract) s at)
       unfolding attempt parse
       runs_out v = rw (lt-leb _ _ t, le-ltb _ _ u, ← e, parse_from s place (data_size - subtract) place, lt-leb _ _ v)
 
@@ -73,9 +75,9 @@ module _ (end cum_end data_size subtract : ℕ) (s : List ℕ) (at : ℕ) where
         by_first = rw (lt-leb _ _ t, le-ltb _ _ u, ← e, parse_from s place (data_size - subtract) place, le-leb _ _ v, first_decides s place (data_size - subtract) (omega arith))
 
         pub plausible_first : is_plausible (of_bits binary32 (little_endian (bytes s place 4))) ≡ true
-            → Accepted place (data_size - subtract) ≡ attempt_answer (parse (attempt end cum_end data_size subtract) s at)
+            → Ok (Some (place, data_size - subtract)) ≡ attempt_answer (parse (attempt end cum_end data_size subtract) s at)
         plausible_first w = rw (by_first, w, length-peaks false 8 s place (data_size - subtract))
 
         pub implausible_first : is_plausible (of_bits binary32 (little_endian (bytes s place 4))) ≡ false
-            → PassedOver ≡ attempt_answer (parse (attempt end cum_end data_size subtract) s at)
+            → Ok None ≡ attempt_answer (parse (attempt end cum_end data_size subtract) s at)
         implausible_first w = rw (by_first, w)

@@ -1,7 +1,6 @@
 -- `events::event_place` meets its contract: a turn passes one event (`Passed`).
-use mathlib.Core.Path.{sym, ap, ◌∙◌}
 use native.Mathlib.Omega.{arith}
-use Rattle.refusal.specs.Number.{outcome_of}
+use Rattle.std.proofs.lemmas.Result.{err_from_is_err_and}
 use Rattle.events.proofs.Ends.{passed_none, passed_more, passed_short, passed_all}
 use Rattle.events.proofs.event_place.Goals as goal
 
@@ -10,11 +9,13 @@ loop-i-init c =
     let a = c.args in
     passed_none a.version a.body_primary a.body_dependent a.start a.k a.run.now
 
-pub returns-in-Err : goal.returns-in-Err
-returns-in-Err c =
+pub returns-in_err-at : goal.returns-in_err-at
+returns-in_err-at c =
     let a = c.args in
     let l = c.loop-i in
-    passed_short a.version a.body_primary a.body_dependent a.start a.k a.run.now l.i l.at c.loop-i-test.true l.invariant (sym (ap outcome_of c.in-Err.is) ∙ c.event_end.ensures)
+    let p = err_from_is_err_and c.from_residual.result c.from_residual.ensures.1 in
+    rw (p.1, p.2)
+    (passed_short a.version a.body_primary a.body_dependent a.start a.k a.run.now l.i l.at c.loop-i-test.true l.invariant c.in_err-at.ensures)
 
 pub overflow_add-i : goal.overflow_add-i
 overflow_add-i c = omega (arith, c.loop-i-test.true)
@@ -26,7 +27,7 @@ pub loop-i-preserved : goal.loop-i-preserved
 loop-i-preserved c =
     let a = c.args in
     let l = c.loop-i in
-    passed_more a.version a.body_primary a.body_dependent a.start a.k a.run.now l.i l.at c.loop-i-test.true l.invariant _ (sym (ap outcome_of c.in-Count.is) ∙ c.event_end.ensures)
+    passed_more a.version a.body_primary a.body_dependent a.start a.k a.run.now l.i l.at c.loop-i-test.true l.invariant _ c.in_ok-at.ensures
 
 pub returns : goal.returns
 returns c =
