@@ -45,9 +45,7 @@ fn judge_records(start: u64, body: &[u8], n: u64) -> Result<(), Refusal>
 {
     let mut i: u64 = 0;
     while i < n {
-        if let Err(r) = judge_record(start, body, i) {
-            return Err(r);
-        }
+        judge_record(start, body, i)?;
         i = i + 1;
     }
     Ok(())
@@ -88,8 +86,8 @@ fn judge_body(start: u64, bytes: &[u8], body: &[u8]) -> Result<Lists, Refusal>
 {
     if 4 <= remaining(body, 0) {
         let count = u32_at(body, 0) as u64;
-        let () = judge_records(start, body, kept_count(bytes, count))?;
-return Ok(lists_of(bytes, body, count));
+        judge_records(start, body, kept_count(bytes, count))?;
+        return Ok(lists_of(bytes, body, count));
     }
     Err(Refusal::BodyTooShort)
 }
@@ -105,12 +103,12 @@ fn find_counted(run: &[u8], at: u64, body_size: u32) -> Result<Places, Refusal>
         if size <= remaining(run, at + 136) {
             let to = middle + body_size as usize;
             let lists = judge_body(at + 136, &run[from..middle], &run[middle..to])?;
-return Ok(Places {
-                        preamble: at,
-                        preamble_len: 136,
-                        lists,
-                        next: at + 136 + size,
-                    });
+            return Ok(Places {
+                preamble: at,
+                preamble_len: 136,
+                lists,
+                next: at + 136 + size,
+            });
         }
     }
     Err(Refusal::Short(Part::Event))
@@ -130,5 +128,5 @@ pub fn read_counted_v66(
         (outcome_of result) (preamble.new ∷ precursors.new ∷ energies.new ∷ coefficients.new ∷ []) }
 {
     let p = find_counted(run, at, body_size)?;
-write_event(run, p, preamble, precursors, energies, coefficients)
+    write_event(run, p, preamble, precursors, energies, coefficients)
 }

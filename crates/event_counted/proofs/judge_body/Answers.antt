@@ -1,8 +1,8 @@
 -- `event_counted::judge_body` meets its contract: the count, the records, and then the lists.
-use mathlib.Core.Path.{sym, ap, ◌∙◌}
+use mathlib.Core.Path.{ap, ◌∙◌}
 use native.Mathlib.Omega.{arith}
+use Rattle.std.proofs.lemmas.Result.{err_from_is_err_and}
 use Rattle.refusal.specs.Outcome.{ok}
-use Rattle.refusal.specs.Number.{outcome_of}
 use Rattle.event_counted.proofs.Answers.{no_count, wrong_record, sound_records, kept_most}
 use Rattle.event_counted.proofs.judge_body.Goals as goal
 
@@ -11,14 +11,14 @@ judge_records-requires c =
     let p = c.args.bytes.now in
     (omega arith, omega (arith, c.kept_count.ensures, kept_most p c.u32_at-count.result))
 
-pub returns-in-Err : goal.returns-in-Err
-returns-in-Err c =
-    wrong_record _ _ _ (omega arith) _ c.u32_at-count.ensures c.kept_count.ensures (sym (ap outcome_of c.in-Err.is) ∙ c.judge_records.ensures)
+pub returns-in_err-judge_records : goal.returns-in_err-judge_records
+returns-in_err-judge_records c =
+    let p = err_from_is_err_and c.from_residual.result c.from_residual.ensures.1 in
+    rw (p.1, p.2) (wrong_record _ _ _ (omega arith) _ c.u32_at-count.ensures c.kept_count.ensures c.in_err-judge_records.ensures)
 
-pub returns-in-Sound : goal.returns-in-Sound
-returns-in-Sound c =
-    let all = sym (ap outcome_of c.in-Sound.is) ∙ c.judge_records.ensures in
-    ap ok c.lists_of.ensures ∙ sound_records _ _ _ (omega arith) _ c.u32_at-count.ensures c.kept_count.ensures all
+pub returns-then-remaining-ge4 : goal.returns-then-remaining-ge4
+returns-then-remaining-ge4 c =
+    ap ok c.lists_of.ensures ∙ sound_records _ _ _ (omega arith) _ c.u32_at-count.ensures c.kept_count.ensures c.in_ok-judge_records.ensures
 
 pub returns : goal.returns
 returns c = no_count _ _ _ (omega arith)
