@@ -5,7 +5,7 @@ use Rattle.refusal.specs.Number.{outcome_of}
 use Rattle.packet_profile.proofs.Signals.{There, there, missing}
 use Rattle.pairs.proofs.Counting.{counting_first, counting_more, counting_short, counting_all}
 use Rattle.pairs.proofs.count_pairs.Goals as goal
-use Rattle.pairs.proofs.count_pairs.Goals.{In-Signal}
+use Rattle.pairs.proofs.count_pairs.Goals.{In-Ok}
 
 pub loop-passed-init : goal.loop-passed-init
 loop-passed-init c = counting_first c.args.profile c.args.run.now
@@ -17,17 +17,17 @@ returns-in_default c =
     counting_short a.profile a.run.now l.invariant (missing a.profile.fudged a.run.now l.at (sym (ap outcome_of c.in_default.is) ∙ c.signal_at.ensures))
 
 -- the chunk of this turn is there
-chunk_there : (c : In-Signal) → let a = c.args in There a.profile.fudged a.run.now c.loop-passed.at c.in-Signal.found
-chunk_there c = there _ _ _ (sym (ap outcome_of c.in-Signal.is) ∙ c.signal_at.ensures)
+chunk_there : (c : In-Ok) → let a = c.args in There a.profile.fudged a.run.now c.loop-passed.at c.in-Ok.found
+chunk_there c = there _ _ _ c.in-Ok.ensures
 
 pub overflow_add-pairs : goal.overflow_add-pairs
-overflow_add-pairs c = omega (arith, c.loop-passed.invariant.fits, (chunk_there (goal.at.overflow_add-pairs c).In-Signal).starts, (chunk_there (goal.at.overflow_add-pairs c).In-Signal).ends)
+overflow_add-pairs c = omega (arith, c.loop-passed.invariant.fits, (chunk_there (goal.at.overflow_add-pairs c).In-Ok).starts, (chunk_there (goal.at.overflow_add-pairs c).In-Ok).ends)
 
 pub loop-passed-preserved : goal.loop-passed-preserved
 loop-passed-preserved c =
     let a = c.args in
     let l = c.loop-passed in
-    counting_more a.profile a.run.now l.invariant (omega arith) (chunk_there (goal.at.loop-passed-preserved c).In-Signal)
+    counting_more a.profile a.run.now l.invariant (omega arith) (chunk_there (goal.at.loop-passed-preserved c).In-Ok)
 
 pub returns : goal.returns
 returns c =

@@ -5,7 +5,7 @@ use Rattle.refusal.specs.Number.{outcome_of}
 use Rattle.packet_profile.proofs.Signals.{There, there, missing}
 use Rattle.pairs.proofs.Writing.{writing_first, writing_more, writing_short, writing_all, mz_size, intensity_size, mz_within, intensity_within, with_chunk}
 use Rattle.pairs.proofs.write_pairs.Goals as goal
-use Rattle.pairs.proofs.write_pairs.Goals.{In-Signal}
+use Rattle.pairs.proofs.write_pairs.Goals.{In-Ok}
 
 pub loop-i-init : goal.loop-i-init
 loop-i-init c =
@@ -26,8 +26,8 @@ returns-in_default c =
     record { mz_after = all.0; intensity_after = all.1 }
 
 -- the chunk of this turn is there
-chunk_there : (c : In-Signal) → There c.args.profile.fudged c.args.run.now c.loop-i.at c.in-Signal.signal
-chunk_there c = there _ _ _ (sym (ap outcome_of c.in-Signal.is) ∙ c.signal_at.ensures)
+chunk_there : (c : In-Ok) → There c.args.profile.fudged c.args.run.now c.loop-i.at c.in-Ok.signal
+chunk_there c = there _ _ _ c.in-Ok.ensures
 
 pub offset_bounds-mz-n : goal.offset_bounds-mz-n
 offset_bounds-mz-n c = omega (arith, mz_within _ _ _ _ _ c.requires.run_in_bounds c.requires.run_in_bounds_2 c.loop-i.invariant, mz_size _ _ _ _ _ c.requires.run_in_bounds c.requires.run_in_bounds_2 c.loop-i.invariant)
@@ -48,14 +48,14 @@ pub slice_bounds-write_chunk-start-in-loop-i : goal.slice_bounds-write_chunk-sta
 slice_bounds-write_chunk-start-in-loop-i c = omega (arith, intensity_within _ _ _ _ _ c.requires.run_in_bounds c.requires.run_in_bounds_2 c.loop-i.invariant)
 
 pub overflow_add-n : goal.overflow_add-n
-overflow_add-n c = omega (arith, with_chunk _ _ _ _ _ c.requires.run_in_bounds c.requires.run_in_bounds_2 c.loop-i.invariant (omega (arith, c.loop-i-test.true)) (chunk_there (goal.at.overflow_add-n c).In-Signal), c.requires.run_in_bounds)
+overflow_add-n c = omega (arith, with_chunk _ _ _ _ _ c.requires.run_in_bounds c.requires.run_in_bounds_2 c.loop-i.invariant (omega (arith, c.loop-i-test.true)) (chunk_there (goal.at.overflow_add-n c).In-Ok), c.requires.run_in_bounds)
 
 pub overflow_add-i : goal.overflow_add-i
 overflow_add-i c = omega (arith, c.loop-i-test.true)
 
 pub loop-i-preserved : goal.loop-i-preserved
 loop-i-preserved c =
-    writing_more _ _ _ _ _ c.requires.run_in_bounds c.requires.run_in_bounds_2 c.loop-i.invariant (omega (arith, c.loop-i-test.true)) (chunk_there (goal.at.loop-i-preserved c).In-Signal) _ _
+    writing_more _ _ _ _ _ c.requires.run_in_bounds c.requires.run_in_bounds_2 c.loop-i.invariant (omega (arith, c.loop-i-test.true)) (chunk_there (goal.at.loop-i-preserved c).In-Ok) _ _
     c.u32_at.ensures c.fudge_at.ensures c.write_chunk.result _ _ _ _ refl refl c.write_chunk.ensures
 
 pub shape_of-mz : goal.shape_of-mz
