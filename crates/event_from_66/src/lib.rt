@@ -63,7 +63,12 @@ fn is_tribrid(primary: bool, body_primary: u32, body_dependent: u32) -> bool
 }
 
 // The event at a place of the run. Nothing is written.
-pub fn find_from_66(run: &[u8], at: u64, body_primary: u32, body_dependent: u32) -> Result<Places, Refusal>
+pub fn find_from_66(
+    run: &[u8],
+    at: u64,
+    body_primary: u32,
+    body_dependent: u32,
+) -> Result<Places, Refusal>
     ensures { outcome_of result ≡ find_by (from_66 body_primary body_dependent) at run.now }
 {
     if 136 <= remaining(run, at) {

@@ -69,7 +69,12 @@ fn attempts_at(
 }
 
 // The peaks of a record, found and not handed out. Each takes 8 bytes.
-pub fn find_flat_peaks(run: &[u8], data: u64, cum_end: u64, data_size: u32) -> Result<(u64, u64), Refusal>
+pub fn find_flat_peaks(
+    run: &[u8],
+    data: u64,
+    cum_end: u64,
+    data_size: u32,
+) -> Result<(u64, u64), Refusal>
     ensures { outcome_of result ≡ find_flat_peaks «data» cum_end data_size run.now }
 {
     let end = saturating_add(data, cum_end);
@@ -90,5 +95,5 @@ pub fn read_flat_peaks(
     ensures { LeftPairs (λ m a. read_flat_peaks m a «data» cum_end data_size run.now) mz.old abundance.old result mz.new abundance.new }
 {
     let (place, count) = find_flat_peaks(run, data, cum_end, data_size)?;
-write_peaks(run, place, 8, count, false, mz, abundance)
+    write_peaks(run, place, 8, count, false, mz, abundance)
 }
