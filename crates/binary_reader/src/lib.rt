@@ -8,7 +8,7 @@ ghost use Rattle.std.specs.Prelude.{◌≡◌};
 ghost use Rattle.parser.specs.Parser.{bytes, parse, word, skip, check_count, word_at};
 ghost use Rattle.binary_reader.specs.Read.{width, outcome_of, reads, place_after, Moves};
 
-use reader::{remaining, u8_at, u16_at, u32_at, u64_at};
+use reader::{remaining, u16_at, u32_at, u64_at, u8_at};
 
 // How many bytes a number has.
 #[derive(Clone, Copy)]

@@ -16,7 +16,7 @@ use event_record::{ScanEvent, activation};
 use event_window::{FoundWindow, Window};
 use float_bits::{bits_of_f64, f64_of_bits};
 use lists::holds;
-use reader::{saturating_add, smaller};
+use reader::saturating_add;
 use refusal::Refusal;
 use writer::{store_bytes, store_u32, store_u64, store_u64s};
 
@@ -210,7 +210,7 @@ fn store_reaction(out: &mut [u8], at: u64, precursor: u64, energy: u64)
 fn store_reactions(out: &mut [u8], at: u64, precursors: &[u64], energies: &[u64])
     ensures { out.new ≡ sets out.old at (concat (written reaction) (zip precursors.now energies.now)) }
 {
-    let n = smaller(precursors.len() as u64, energies.len() as u64) as usize;
+    let n = precursors.len().min(energies.len());
     let mut place = at;
     let mut i: usize = 0;
     while i < n {
@@ -234,7 +234,7 @@ fn store_event(
     ensures { out.new ≡ sets out.old 0
         (written (layout_before_66 version) (event_from window preamble.now precursors.now energies.now coefficients.now)) }
 {
-    let n = smaller(precursors.len() as u64, energies.len() as u64);
+    let n = precursors.len().min(energies.len()) as u64;
     let count = preamble.len() as u64;
     let ends = count + 4 + n * 32;
     let last = ends + 24 + (coefficients.len() as u64) * 8;

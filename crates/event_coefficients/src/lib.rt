@@ -4,7 +4,7 @@
 ghost use Rattle.std.specs.Prelude.{◌≡◌};
 ghost use Rattle.event_coefficients.specs.Coefficients.{word_offset, coefficient_count};
 
-use reader::{remaining, saturating_sub, u32_at};
+use reader::{remaining, u32_at};
 
 // Where the count word stands in a body of `size` bytes whose window is at `window`, or absent, which counts as 0.
 #[tactic(auto, unfolding(crate::specs::Coefficients::word_offset))]
@@ -17,7 +17,7 @@ pub fn word_offset(window: u64, size: u64, primary: bool) -> u64
     if window == 8 && size == 96 && primary {
         return 24;
     }
-    saturating_sub(size, 64)
+    size.saturating_sub(64)
 }
 
 // How many coefficients stand after the count word. A stored count beyond the body is cut to what fits.

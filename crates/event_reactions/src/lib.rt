@@ -9,7 +9,7 @@ ghost use Rattle.event_reactions.specs.Reactions.{acceptable, kept, record_count
 
 use float_bits::{f64_of_bits, is_finite64};
 use lists::holds;
-use reader::{copy_u64s, remaining, saturating_add, smaller, u32_at, u64_at};
+use reader::{copy, remaining, saturating_add, u32_at, u64_at};
 use refusal::Refusal;
 
 // Where the reactions of an event stand in its body.
@@ -43,21 +43,15 @@ fn has_uncounted(body: &[u8]) -> bool
     36 <= body.len() && plausible_precursor(u64_at(body, 4))
 }
 
-fn larger(a: u64, b: u64) -> u64
-    ensures { result ≡ max a b }
-{
-    if a <= b { b } else { a }
-}
-
 // How many records are read. A stored count above the largest gives none.
 fn record_count(body: &[u8], at: u64, from: u64) -> u64
     requires { from ≤ 8 }
     ensures { result ≡ record_count body.now at from }
 {
     let stored = u32_at(body, at) as u64;
-    let largest = larger(remaining(body, from + 32) / 32, 1);
+    let largest = (remaining(body, from + 32) / 32).max(1);
     if stored <= largest {
-        smaller(stored, remaining(body, from) / 32)
+        stored.min(remaining(body, from) / 32)
     } else {
         0
     }
@@ -138,8 +132,8 @@ fn write_sought(body: &[u8], tribrid: bool, precursors: &mut [u64], energies: &m
     }
     let count = write_kept(body, 8, record_count(body, 4, 8), precursors, energies);
     if count == 0 && has_uncounted(body) {
-        let _ = copy_u64s(body, 4, 32, 1, precursors);
-        let _ = copy_u64s(body, 20, 32, 1, energies);
+        let _ = copy::<u64>(body, 4, 32, 1, precursors);
+        let _ = copy::<u64>(body, 20, 32, 1, energies);
     }
 }
 
@@ -169,8 +163,8 @@ fn write_source(body: &[u8], source: Source, precursors: &mut [u64], energies: &
             stride,
             count,
         } => {
-            let _ = copy_u64s(body, from, stride, count, precursors);
-            let _ = copy_u64s(body, saturating_add(from, 16), stride, count, energies);
+            let _ = copy::<u64>(body, from, stride, count, precursors);
+            let _ = copy::<u64>(body, saturating_add(from, 16), stride, count, energies);
         }
         Source::Sought { tribrid } => write_sought(body, tribrid, precursors, energies),
     }

@@ -7,7 +7,7 @@ ghost use Rattle.event_window.specs.Window.{window_of, first_window, candidates}
 ghost use Rattle.event_window.specs.Internal.{first_of};
 
 use float_bits::{f64_of_bits, is_finite};
-use reader::{remaining, saturating_sub, u64_at};
+use reader::{remaining, u64_at};
 
 #[derive(Clone, Copy)]
 pub enum Window {
@@ -86,8 +86,8 @@ pub fn find_window(body: &[u8], tribrid: bool) -> FoundWindow
 {
     let size = body.len() as u64;
     if tribrid {
-        first_window(body, saturating_sub(size, 88), 8, 64, 128)
+        first_window(body, size.saturating_sub(88), 8, 64, 128)
     } else {
-        first_window(body, 64, 8, 128, saturating_sub(size, 80))
+        first_window(body, 64, 8, 128, size.saturating_sub(80))
     }
 }

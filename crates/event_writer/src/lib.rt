@@ -12,7 +12,7 @@ use event_preamble::decode;
 use event_reactions::{count_reactions, write_reactions};
 use event_record::{EventAndNext, Lists, Places, ScanEvent, activation};
 use lists::holds;
-use reader::{copy_bytes, copy_u64s, saturating_add, saturating_sub, smaller};
+use reader::{copy, copy_bytes, saturating_add};
 use refusal::Refusal;
 
 // The lists of an event, over the fronts of slices that hold them.
@@ -33,7 +33,7 @@ fn write_lists(
     let reactions = j.reactions;
     let _ = copy_bytes(bytes, 0, bytes.len() as u64, preamble);
     let _ = write_reactions(body, reactions, precursors, energies);
-    let _ = copy_u64s(body, j.coefficients_at, 8, j.coefficients, coefficients);
+    let _ = copy::<u64>(body, j.coefficients_at, 8, j.coefficients, coefficients);
 }
 
 // The event of a preamble and a body, where the slices hold it.
@@ -90,7 +90,7 @@ fn write_if_fits(
 fn within(run: &[u8], place: u64) -> usize
     ensures { result ≡ min place (length run.now) }
 {
-    smaller(place, run.len() as u64) as usize
+    place.min(run.len() as u64) as usize
 }
 
 // The event at these places of the run, where the slices hold it. Bytes after the run's end are none of the preamble or the
@@ -110,7 +110,7 @@ pub fn write_event(
     let from = within(run, p.preamble);
     let body = saturating_add(p.preamble, p.preamble_len);
     let middle = within(run, body);
-    let end = within(run, saturating_add(body, saturating_sub(p.next, body)));
+    let end = within(run, saturating_add(body, p.next.saturating_sub(body)));
     let lists = p.lists;
     write_if_fits(
         &run[from..middle],

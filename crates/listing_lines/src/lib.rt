@@ -12,7 +12,6 @@ ghost use Rattle.listing_lines.specs.Internal.{Appends};
 
 use float_bits::bits_of_f64;
 use float_ten_thousandths::ten_thousandths;
-use reader::smaller;
 use refusal::Refusal;
 use text::write;
 
@@ -147,7 +146,7 @@ fn append_pair(mz: f64, intensity: f64, at: usize, out: &mut [u8]) -> usize
 fn pair_count(mz: &[f64], intensity: &[f64]) -> usize
     ensures { result ≡ min (length mz.now) (length intensity.now) }
 {
-    smaller(mz.len() as u64, intensity.len() as u64) as usize
+    mz.len().min(intensity.len())
 }
 
 // The lines of a scan.

@@ -6,7 +6,6 @@ ghost use mathlib.Core.List.{zip};
 ghost use Rattle.lists.specs.Left.{columns};
 ghost use Rattle.listing_pairs.specs.Listed.{is_listed, listed_pairs};
 
-use reader::smaller;
 use scan_format::ScanDataFormat;
 
 // Whether a pair of this m/z is listed. In a scan of either flat kind m/z 0 marks a transition that saw nothing.
@@ -25,7 +24,7 @@ pub fn keep_listed(format: ScanDataFormat, mz: &mut [f64], intensity: &mut [f64]
     ensures value { result ≡ length (listed_pairs format (zip mz.old intensity.old)) }
     ensures intensity_after { (mz.new, intensity.new) ≡ columns (listed_pairs format (zip mz.old intensity.old)) (mz.old, intensity.old) }
 {
-    let pairs = smaller(mz.len() as u64, intensity.len() as u64) as usize;
+    let pairs = mz.len().min(intensity.len());
     let mut kept: usize = 0;
     let mut i: usize = 0;
     while i < pairs {

@@ -11,7 +11,7 @@ use lists::holds;
 use packet_places::find_places;
 use packet_profile::{Profile, fudge_at, head_size};
 use packet_record::{ScanDataPacket, write_packet};
-use reader::{copy_u32s, u32_at};
+use reader::{copy, u32_at};
 use refusal::Refusal;
 
 // The lists of chunks that are there, where the slices hold them. Each chunk's signal stands after that of the chunk
@@ -39,7 +39,7 @@ fn write_chunks(
         bins[i] = u32_at(run, at);
         counts[i] = n;
         fudges[i] = fudge_at(run, at, fudged);
-        let _ = copy_u32s(run, at + head, 4, n as u64, &mut signal[written..]);
+        let _ = copy::<u32>(run, at + head, 4, n as u64, &mut signal[written..]);
         written = written + n as usize;
         at = at + head + (n as u64) * 4;
         i = i + 1;

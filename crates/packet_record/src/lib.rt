@@ -14,7 +14,7 @@ use packet_header::PacketHeader;
 use packet_labels::{Labels, read_labels};
 use packet_peak_list::{PeakList, item_size};
 use packet_profile::Profile;
-use reader::{copy_u32s, saturating_add};
+use reader::{copy, saturating_add};
 use refusal::Refusal;
 
 #[derive(Clone, Copy)]
@@ -77,14 +77,14 @@ fn write_lists(
     let labels = places.labels;
     let stride = item_size(list.wide);
     let _ = peaks::write_peaks(run, list.at, stride, list.count, list.wide, mz, abundance);
-    let _ = copy_u32s(
+    let _ = copy::<u32>(
         run,
         labels.descriptors_at,
         4,
         labels.descriptors,
         descriptors,
     );
-    let _ = copy_u32s(
+    let _ = copy::<u32>(
         run,
         saturating_add(labels.unknown_at, 4),
         4,

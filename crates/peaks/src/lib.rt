@@ -10,7 +10,7 @@ ghost use Rattle.peaks.specs.Peaks.{widened_bits, peaks_at};
 
 use float_bits::{bits_of_f64, widened};
 use lists::holds;
-use reader::{copy_u32s, copy_u64s, saturating_add, u32_at};
+use reader::{copy, saturating_add, u32_at};
 use refusal::Refusal;
 
 fn widened_bits(bits: u32) -> u64
@@ -51,12 +51,12 @@ fn write_columns(
     ensures abundance_after { abundance.new ≡ fitting (seconds (peaks_at wide stride run.now at n)) abundance.old }
 {
     if wide {
-        let _ = copy_u64s(run, at, stride, n, mz);
-        let _ = copy_u32s(run, saturating_add(at, 8), stride, n, abundance);
+        let _ = copy::<u64>(run, at, stride, n, mz);
+        let _ = copy::<u32>(run, saturating_add(at, 8), stride, n, abundance);
         return;
     }
     let _ = copy_widened(run, at, stride, n, mz);
-    let _ = copy_u32s(run, saturating_add(at, 4), stride, n, abundance);
+    let _ = copy::<u32>(run, saturating_add(at, 4), stride, n, abundance);
 }
 
 // The same, where both slices hold them.

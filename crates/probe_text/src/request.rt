@@ -207,7 +207,7 @@ pub fn u64s(line: &[u8], at: usize, data: &mut [u8], out: &mut [u64]) -> Field
     ensures ends { Ends line.now at result.end }
 {
     let list = elements(bytes(line, at, data), 8);
-    reader::copy_u64s(data, 0, 8, list.value, out);
+    reader::copy::<u64>(data, 0, 8, list.value, out);
     list
 }
 

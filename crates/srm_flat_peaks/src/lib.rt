@@ -13,7 +13,7 @@ ghost use Rattle.srm_flat_peaks.specs.Internal.{attempt_answer};
 
 use float_bits::widened;
 use peaks::write_peaks;
-use reader::{remaining, saturating_add, saturating_sub, u32_at};
+use reader::{remaining, saturating_add, u32_at};
 use refusal::{Part, Refusal};
 
 // Whether an f32 is a plausible m/z: zero, or between 10 and 10,000, both excluded.
@@ -43,7 +43,7 @@ fn attempt_at(
     if section > cum_end {
         return Ok(None);
     }
-    let place = saturating_sub(end, section);
+    let place = end.saturating_sub(section);
     if count * 8 > remaining(run, place) {
         return Err(Refusal::Short(Part::Data));
     }

@@ -10,7 +10,7 @@ ghost use Rattle.srm_scan.specs.Internal.{channels, windows_at};
 
 use lists::holds;
 use peaks::write_peaks;
-use reader::{copy_u32s, remaining, saturating_add, u32_at};
+use reader::{copy, remaining, saturating_add, u32_at};
 use refusal::{Part, Refusal};
 
 // The channels of the scan at a place, whose table takes `size` bytes for each. Their count is below 2^32, so no product wraps,
@@ -66,8 +66,8 @@ fn write_windows(
     ensures { LeftPairs (λ l h. pairs_if_fit l h (windows_at run.now at n)) low.old high.old result low.new high.new }
 {
     if holds(n, low.len() as u64, holds(n, high.len() as u64, true)) {
-        let _ = copy_u32s(run, at, 8, n, low);
-        let _ = copy_u32s(run, at + 4, 8, n, high);
+        let _ = copy::<u32>(run, at, 8, n, low);
+        let _ = copy::<u32>(run, at + 4, 8, n, high);
         return Ok(n);
     }
     Err(Refusal::NoRoom)

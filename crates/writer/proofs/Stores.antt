@@ -1,16 +1,18 @@
 -- Strings that are stored one after the other.
-use mathlib.Core.Path.{◌≡◌, refl, sym, ◌∙◌}
-use mathlib.Core.Logic.{⊎_elim}
+use mathlib.Core.Path.{◌≡◌, refl, sym, ap, ◌∙◌}
+use mathlib.Core.Logic.{◌⊎◌, inl, inr, ⊎_elim}
 use Prim.Native.Nat.{ℕ, zero, suc, ◌+◌, ◌/◌, ◌%◌, ◌-◌, ◌^◌, ◌≤◌, ◌<◌, min}
-use native.Mathlib.Nat.{add-zero, zero-add, add-suc, suc-add, pow-succ', div-one, div-div-eq-div-mul}
+use native.Mathlib.Nat.{mul_comm, add-zero, zero-add, add-suc, suc-add, pow-succ', div-one, div-div-eq-div-mul}
 use native.Mathlib.Omega.{arith}
-use mathlib.Core.List.{List, [], ◌∷◌, ◌++◌}
-use lib.ListN.{length, set}
-use lib.Seq.{sets, sets-eq, length-sets, set_out}
+use mathlib.Core.List.{List, [], ◌∷◌, ◌++◌, append-nil, append_assoc}
+use lib.ListN.{length, set, take, drop, length-take, drop_of_length-le}
+use Rattle.std.proofs.lemmas.List.{take-append-drop}
+use Rattle.core.specs.Int.{byte_at, bytes_low_first}
+use lib.Seq.{sets, sets-eq, length-sets, set_out, take_all, drop-drop}
 use Rattle.lists.specs.Written.{over}
 use Rattle.lists.proofs.Cases.{le_or_lt}
 use Rattle.layout.specs.Layout.{le_bytes}
-use Rattle.layout.proofs.Numbers.{length-le_bytes, le_bytes-mod}
+use Rattle.layout.proofs.Numbers.{length-le_bytes}
 
 module _ {A : Type 0} where
   pub sets_append : (l : List A) (i : ℕ) (v w : List A) → sets l i (v ++ w) ≡ sets (sets l i v) (i + length v) w
@@ -34,26 +36,55 @@ module _ {A : Type 0} where
   unfolding over
   sets_over v l h = sets-eq v l 0 (omega arith) ∙ rw zero-add
 
--- a number's bytes split anywhere
-le_bytes-add : (m n x : ℕ) → le_bytes (m + n) x ≡ le_bytes m x ++ le_bytes n (x / 256 ^ m)
-unfolding le_bytes
-le_bytes-add zero n x = rw (zero-add, div-one)
-le_bytes-add (suc m) n x =
-    let p : x / 256 / 256 ^ m ≡ x / 256 ^ suc m = div-div-eq-div-mul x 256 (256 ^ m) ∙ rw (pow-succ' 256 m) in
-    rw (suc-add, le_bytes-add m n (x / 256), p)
+-- as much of a string as is within the slice
+module _ {A : Type 0} where
+  -- the part that fits, and the part after the end
+  split_store : (l : List A) (i k : ℕ) (v : List A) → i + k ≤ length l → k ≤ length v → (k ≡ length v) ⊎ (i + k ≡ length l)
+      → sets l i v ≡ take i l ++ (take k v ++ drop (i + k) l)
+  split_store l i k v fits h e =
+      let size : length (take k v) ≡ k = simp length-take (omega arith) in
+      let front : sets l i (take k v) ≡ take i l ++ (take k v ++ drop (i + k) l) = sets-eq (take k v) l i (omega (arith, size)) ∙ rw (size, append_assoc) refl in
+      let parts : sets l i v ≡ sets (sets l i (take k v)) (i + k) (drop k v) =
+      ap (sets l i) (sym (take-append-drop k v)) ∙ sets_append l i (take k v) (drop k v) ∙ rw size in
+      let beyond : sets (sets l i (take k v)) (i + k) (drop k v) ≡ sets l i (take k v) =
+      ⊎_elim
+      (λ (all : k ≡ length v). let none : drop k v ≡ [] = drop_of_length-le v (omega arith) in rw none)
+      (λ (end : i + k ≡ length l). sets_out (sets l i (take k v)) (i + k) (drop k v) (rw (length-sets l i (take k v)) (omega arith)))
+      e
+      in
+      parts ∙ beyond ∙ front
 
--- a number is stored by its halves, of which the upper one stands at a place p that was found by `saturating_add`
-pub stored_halves : (l : List ℕ) (at m n x p : ℕ) {l₁ l₂ : List ℕ} → length l < 2 ^ 64 → p ≡ min (at + m) (2 ^ 64 - 1)
-    → l₁ ≡ sets l at (le_bytes m (x % 256 ^ m)) → l₂ ≡ sets l₁ p (le_bytes n (x / 256 ^ m)) → l₂ ≡ sets l at (le_bytes (m + n) x)
-stored_halves l at m n x p {l₁} h e one two =
-    let size : length l₁ < 2 ^ 64 = rw (one, length-sets l at (le_bytes m (x % 256 ^ m))) h in
-    two ∙ rw (e, sets_saturated l₁ (at + m) (le_bytes n (x / 256 ^ m)) size, one, le_bytes-mod m x)
-    (sym (rw (le_bytes-add m n x, sets_append l at (le_bytes m x) (le_bytes n (x / 256 ^ m)), length-le_bytes m x)))
+  pub sets_within : (l : List A) (i : ℕ) (v : List A) {start end : ℕ} → start ≡ min i (length l) → end ≡ min (i + length v) (length l)
+      → sets l i v ≡ take start l ++ (take (end - start) v ++ drop (end - start) (drop start l))
+  sets_within l i v {start} {end} p q =
+      let far : start + (end - start) ≡ end = omega arith in
+      rw (drop-drop, far)
+      (⊎_elim
+      (λ (h : i ≤ length l).
+      let s : start ≡ i = omega arith in
+      let e : i + (end - i) ≡ end = omega arith in
+      let one : (end - start ≡ length v) ⊎ (i + (end - start) ≡ length l) = ⊎_elim (λ (a : i + length v ≤ length l). inl (omega arith)) (λ (a : length l < i + length v). inr (omega arith)) (le_or_lt (i + length v) (length l)) in
+      split_store l i (end - start) v (omega arith) (omega arith) one ∙ rw (s, e))
+      (λ (h : length l < i).
+      let s : start ≡ length l = omega arith in
+      let e : end ≡ length l = omega arith in
+      let n : length l - length l ≡ 0 = omega arith in
+      let none : drop (length l) l ≡ [] = drop_of_length-le l (omega arith) in
+      sets_out l i v (omega arith) ∙ rw (s, e, n, take_all (length l) l (omega arith), none) (sym (append-nil l)))
+      (le_or_lt i (length l)))
 
--- one byte
-pub stored_byte : (l : List ℕ) (at x : ℕ) → x < 256 → set l at x ≡ sets l at (le_bytes 1 x)
+-- std's bytes of a number are these
+pub le_bytes-from : (n k x : ℕ) → bytes_low_first k n x ≡ le_bytes n (x / 256 ^ k)
 unfolding le_bytes
-stored_byte l at x h = let e : x % 256 ≡ x = omega arith in rw e
+le_bytes-from zero k x = refl
+le_bytes-from (suc n) k x =
+    let one : byte_at k x ≡ x / 256 ^ k % 256 = byte_is k x in
+    let next : x / 256 ^ suc k ≡ x / 256 ^ k / 256 = rw (pow-succ', mul_comm 256 (256 ^ k)) (sym (div-div-eq-div-mul x (256 ^ k) 256)) in
+    rw (one, le_bytes-from n (suc k) x, next) refl
+  where
+    byte_is : (k x : ℕ) → byte_at k x ≡ x / 256 ^ k % 256
+    byte_is zero x = rw div-one refl
+    byte_is (suc k) x = refl
 
 -- the first of several strings, of which one is a number
 pub sets_word : (l : List ℕ) (at n x : ℕ) (w : List ℕ) → sets l at (le_bytes n x ++ w) ≡ sets (sets l at (le_bytes n x)) (at + n) w

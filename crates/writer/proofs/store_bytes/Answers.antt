@@ -1,26 +1,10 @@
--- `writer::store_bytes` meets its contract. The invariant: the first i elements are stored, and the place is that of the next.
-use mathlib.Core.Path.{ap, ◌∙◌}
+-- `writer::store_bytes` meets its contract: what is within the slice is copied.
+use mathlib.Core.Path.{sym}
 use native.Mathlib.Omega.{arith}
-use lib.ListN.{length}
-use lib.Seq.{length-sets}
-use Rattle.layout.specs.Layout.{le_bytes}
-use Rattle.layout.proofs.Numbers.{length-le_bytes}
-use Rattle.writer.proofs.Loops.{storing_none, storing_more, storing_all, concat-bytes}
+use Rattle.writer.proofs.Stores.{sets_within}
 use Rattle.writer.proofs.store_bytes.Goals as goal
-
-pub loop-i-init : goal.loop-i-init
-loop-i-init c = storing_none _ _ _ _ _ (omega arith)
-
-pub loop-i-preserved : goal.loop-i-preserved
-loop-i-preserved c =
-    let a = c.args in
-    storing_more (le_bytes 1) 1 a.xs.now a.out.now a.at (length-le_bytes 1) (omega arith) _ _ _ _ _ 0 c.loop-i.invariant (omega arith) c.store_u8.ensures c.saturating_add-place.ensures
-
-pub shape_of-out : goal.shape_of-out
-shape_of-out c = ap length c.loop-i.invariant.stored ∙ simp length-sets
 
 pub returns : goal.returns
 returns c =
     let a = c.args in
-    storing_all _ _ _ _ _ c.loop-i.invariant c.loop-i-test.false
-    ∙ rw (concat-bytes a.xs.now (λ i. omega (arith, c.type_inv.xs i)))
+    rw c.copy_from_slice.ensures.after (sym (sets_within a.out.now a.at a.xs.now c.min-start.ensures (omega (arith, c.min-end.ensures, c.saturating_add.ensures))))

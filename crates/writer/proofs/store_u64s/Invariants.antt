@@ -1,12 +1,7 @@
--- `writer::store_u64s` meets its contract. The invariant: the first i elements are stored, and the place is that of the next.
-use Prim.Native.Nat.{◌-◌}
-use lib.ListN.{length}
+-- `writer::store_u64s` meets its contract. The invariant: the elements before the next one are stored, and the place is that of the next.
 use Rattle.layout.specs.Layout.{le_bytes}
 use Rattle.writer.proofs.Loops.{Storing}
 use Rattle.writer.proofs.store_u64s.Given as goal
 
-abbrev pub invariant-loop-i : goal.invariant-loop-i
-invariant-loop-i l = Storing (le_bytes 8) 8 l.xs l.initial.out l.at l.out l.i l.place
-
-abbrev pub decreases-loop-i : goal.decreases-loop-i
-decreases-loop-i l = length l.xs - l.i
+abbrev pub invariant-loop-x : goal.invariant-loop-x
+invariant-loop-x l = Storing (le_bytes 8) 8 l.xs l.initial.out l.at l.out l.x-index l.place
