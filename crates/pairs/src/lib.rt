@@ -99,55 +99,62 @@ pub fn to_mz_intensity(
     Err(Refusal::NoRoom)
 }
 
-// A number that is stored as an f64, or as an f32.
-fn float_at(run: &[u8], at: u64, wide: bool) -> f64
-    ensures { result ≡ float_at wide run.now at }
-{
-    if wide {
+// A number that is stored as an f64, and one that is stored as an f32 and widened.
+struct Double;
+
+struct Single;
+
+impl Stored for Double {
+    type Value = f64;
+
+    ghost value = { λ s p. f64_at s p };
+
+    ghost beyond = { λ s p q a b. ap (of_bits binary64) (no_words s p q 8 a b) };
+
+    fn read(run: &[u8], at: u64) -> f64 {
         f64_of_bits(u64_at(run, at))
-    } else {
+    }
+}
+
+impl Stored for Single {
+    type Value = f64;
+
+    ghost value = { λ s p. f32_at s p };
+
+    ghost beyond = { λ s p q a b. ap (of_bits binary32) (no_words s p q 4 a b) };
+
+    fn read(run: &[u8], at: u64) -> f64 {
         widened(u32_at(run, at))
     }
 }
 
-// Numbers that stand at equal distances, over the front of a lent slice that holds them.
-fn copy_floats(run: &[u8], at: u64, stride: u64, n: u64, wide: bool, out: &mut [f64])
-    requires { n ≤ length out.old }
-    ensures { out.new ≡ over (each (λ i. float_at wide run.now (at + i * stride)) n) out.old }
+// The columns of a row's pairs, each as far as its slice holds them all.
+fn write_columns(run: &[u8], row: PeakRow, mz: &mut [f64], intensity: &mut [f64])
+    ensures mz_after { mz.new ≡ fitting (firsts (peak_pairs (row_peaks row run.now))) mz.old }
+    ensures intensity_after { intensity.new ≡ fitting (seconds (peak_pairs (row_peaks row run.now))) intensity.old }
 {
-    let count = n as usize;
-    let mut place = at;
-    let mut i: usize = 0;
-    while i < count {
-        out[i] = float_at(run, place, wide);
-        place = saturating_add(place, stride);
-        i = i + 1;
+    let PeakRow { at, stride, count, wide } = row;
+    if wide {
+        let _ = copy::<Double>(run, at, stride, count, mz);
+        let _ = copy::<Single>(run, saturating_add(at, 8), stride, count, intensity);
+        return;
     }
+    let _ = copy::<Single>(run, at, stride, count, mz);
+    let _ = copy::<Single>(run, saturating_add(at, 4), stride, count, intensity);
 }
 
-// How many bytes an m/z takes.
-fn mz_size(wide: bool) -> u64
-    ensures { result ≡ cond wide 8 4 }
-{
-    if wide { 8 } else { 4 }
-}
-
-// The pairs of n peaks, each `stride` bytes after the one before: an m/z, and right after it the abundance.
+// The pairs of a row of peaks.
 pub fn peak_pairs(
     run: &[u8],
-    at: u64,
-    stride: u64,
-    n: u64,
-    wide: bool,
+    row: PeakRow,
     mz: &mut [f64],
     intensity: &mut [f64],
 ) -> Result<u64, Refusal>
-    ensures { LeftPairs (λ m i. pairs_if_fit m i (peak_pairs (peaks_at wide stride run.now at n))) mz.old intensity.old result mz.new intensity.new }
+    ensures { LeftPairs (λ m i. pairs_if_fit m i (peak_pairs (row_peaks row run.now))) mz.old intensity.old result mz.new intensity.new }
 {
+    let n = row.count;
     if holds(n, mz.len() as u64, holds(n, intensity.len() as u64, true)) {
-        copy_floats(run, at, stride, n, wide, mz);
-        let beyond = saturating_add(at, mz_size(wide));
-        copy_floats(run, beyond, stride, n, false, intensity);
+        write_columns(run, row, mz, intensity);
         return Ok(n);
     }
     Err(Refusal::NoRoom)

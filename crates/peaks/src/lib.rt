@@ -2,15 +2,16 @@
 // flat records and SRM records hand their peaks out here.
 #![tactic(auto)]
 
-ghost use Rattle.std.specs.Prelude.{◌≡◌, ◌+◌, ◌*◌};
-ghost use Rattle.lists.specs.Left.{firsts, seconds, pairs_if_fit, LeftList, LeftPairs};
-ghost use Rattle.lists.specs.Written.{each, fitting};
+ghost use Rattle.std.specs.Prelude.{◌≡◌};
+ghost use Rattle.std.proofs.Common.{ap};
+ghost use Rattle.lists.specs.Left.{pairs_if_fit, LeftPairs};
 ghost use Rattle.parser.specs.Parser.{word_at};
-ghost use Rattle.peaks.specs.Peaks.{widened_bits, peaks_at};
+ghost use Rattle.reader.specs.Beyond.{no_words};
+ghost use Rattle.peaks.specs.Peaks.{widened_bits, row_values, row_peaks};
 
 use float_bits::{bits_of_f64, widened};
 use lists::holds;
-use reader::{copy, saturating_add, u32_at};
+use reader::{Stored, copy, saturating_add, u32_at};
 use refusal::Refusal;
 
 fn widened_bits(bits: u32) -> u64
@@ -19,61 +20,63 @@ fn widened_bits(bits: u32) -> u64
     bits_of_f64(widened(bits))
 }
 
-// Masses that are stored as f32, over the front of a lent slice that holds them.
-fn copy_widened(run: &[u8], at: u64, stride: u64, n: u64, out: &mut [u64]) -> Result<u64, Refusal>
-    ensures { LeftList (each (λ i. widened_bits (word_at run.now (at + i * stride) 4)) n) out.old result out.new }
-{
-    if n > out.len() as u64 {
-        return Err(Refusal::NoRoom);
-    }
-    let end = n as usize;
-    let mut place = at;
-    let mut i: usize = 0;
-    while i < end {
-        out[i] = widened_bits(u32_at(run, place));
-        place = saturating_add(place, stride);
-        i = i + 1;
-    }
-    Ok(n)
+// Peaks at equal distances: an m/z, and right after it the abundance.
+#[derive(Clone, Copy)]
+pub struct PeakRow {
+    // The place of the first.
+    pub at: u64,
+    pub stride: u64,
+    pub count: u64,
+    // The m/z is stored as an f64.
+    pub wide: bool,
 }
 
-// The columns of n peaks, each `stride` bytes after the one before: an m/z, and right after it the abundance.
-fn write_columns(
+// An m/z that is stored as an f32, as the bits of an f64.
+struct Widened;
+
+impl Stored for Widened {
+    type Value = u64;
+
+    ghost value = { λ s p. widened_bits (word_at s p 4) };
+
+    ghost beyond = { λ s p q a b. ap widened_bits (no_words s p q 4 a b) };
+
+    fn read(run: &[u8], at: u64) -> u64 {
+        widened_bits(u32_at(run, at))
+    }
+}
+
+// The columns of a row, over the fronts of two slices that hold them: W reads a wide m/z, N another, and A what stands after it.
+pub fn write_row<W: Stored, N: Stored<Value = W::Value>, A: Stored>(
     run: &[u8],
-    at: u64,
-    stride: u64,
-    n: u64,
-    wide: bool,
-    mz: &mut [u64],
-    abundance: &mut [u32],
-)
-    ensures mz_after { mz.new ≡ fitting (firsts (peaks_at wide stride run.now at n)) mz.old }
-    ensures abundance_after { abundance.new ≡ fitting (seconds (peaks_at wide stride run.now at n)) abundance.old }
+    row: PeakRow,
+    firsts: &mut [W::Value],
+    seconds: &mut [A::Value],
+) -> Result<u64, Refusal>
+    ensures { LeftPairs (λ m n. pairs_if_fit m n (row_values W.value N.value A.value row run.now)) firsts.old seconds.old result firsts.new seconds.new }
 {
-    if wide {
-        let _ = copy::<u64>(run, at, stride, n, mz);
-        let _ = copy::<u32>(run, saturating_add(at, 8), stride, n, abundance);
-        return;
+    let PeakRow { at, stride, count, wide } = row;
+    if holds(count, firsts.len() as u64, holds(count, seconds.len() as u64, true)) {
+        if wide {
+            let _ = copy::<W>(run, at, stride, count, firsts);
+            let _ = copy::<A>(run, saturating_add(at, 8), stride, count, seconds);
+        } else {
+            let _ = copy::<N>(run, at, stride, count, firsts);
+            let _ = copy::<A>(run, saturating_add(at, 4), stride, count, seconds);
+        }
+        return Ok(count);
     }
-    let _ = copy_widened(run, at, stride, n, mz);
-    let _ = copy::<u32>(run, saturating_add(at, 4), stride, n, abundance);
+    Err(Refusal::NoRoom)
 }
 
-// The same, where both slices hold them.
+// The peaks of a row.
 pub fn write_peaks(
     run: &[u8],
-    at: u64,
-    stride: u64,
-    n: u64,
-    wide: bool,
+    row: PeakRow,
     mz: &mut [u64],
     abundance: &mut [u32],
 ) -> Result<u64, Refusal>
-    ensures { LeftPairs (λ m a. pairs_if_fit m a (peaks_at wide stride run.now at n)) mz.old abundance.old result mz.new abundance.new }
+    ensures { LeftPairs (λ m a. pairs_if_fit m a (row_peaks row run.now)) mz.old abundance.old result mz.new abundance.new }
 {
-    if holds(n, mz.len() as u64, holds(n, abundance.len() as u64, true)) {
-        write_columns(run, at, stride, n, wide, mz, abundance);
-        return Ok(n);
-    }
-    Err(Refusal::NoRoom)
+    write_row::<u64, Widened, u32>(run, row, mz, abundance)
 }
