@@ -1,2 +1,1 @@
-pub mod Field
-pub mod Held
+pub mod Fields

@@ -1,70 +1,18 @@
-// What slices hold before they are lent: docs/REQUESTS.md, "A lent length". At most 64 elements are lent, of a preamble 256.
-ghost use Rattle.std.specs.Prelude.{◌≡◌, ◌+◌, ◌%◌, length};
-ghost use Rattle.std.specs.Float.{binary64};
-ghost use Rattle.std.specs.Float.Ieee.{of_bits};
+// Slices as they are before they are lent.
+ghost use Rattle.std.specs.Prelude.{◌≡◌, ◌≤◌, IfOk, length};
 ghost use Rattle.lists.specs.Written.{each};
 
-pub fn u8s() -> [u8; 256]
-    ensures value { 256 ≡ length result }
-    ensures value_2 { result ≡ each (λ i. (0xa5 + i) % 256) 256 }
-{
-    let mut lent = [0u8; 256];
-    let mut i: usize = 0;
-    while i < 256 {
-        lent[i] = ((0xa5 + i) % 256) as u8;
-        i = i + 1;
-    }
-    lent
-}
+use crate::element::{Element, LONGEST};
+use std::alloc::{AllocError, Global};
 
-pub fn u16s() -> [u16; 64]
-    ensures value { 64 ≡ length result }
-    ensures value_2 { result ≡ each (λ i. 0xa5a0 + i) 64 }
+pub fn lent<T: Element>(alloc: Global, n: usize) -> Result<Vec<T>, AllocError>
+    requires { n ≤ LONGEST }
+    ensures items { IfOk result (λ v. v.items ≡ each T.filler_at n) }
+    ensures len { IfOk result (λ v. length v.items ≡ n) }
 {
-    let mut lent = [0u16; 64];
-    let mut i: u16 = 0;
-    while i < 64 {
-        lent[i as usize] = 0xa5a0 + i;
-        i = i + 1;
+    let mut lent = Vec::with_capacity(alloc, n)?;
+    for i in 0..n {
+        lent.push(T::filler(i))?;
     }
-    lent
-}
-
-pub fn u32s() -> [u32; 64]
-    ensures value { 64 ≡ length result }
-    ensures value_2 { result ≡ each (λ i. 0xa5a5_0000 + i) 64 }
-{
-    let mut lent = [0u32; 64];
-    let mut i: u32 = 0;
-    while i < 64 {
-        lent[i as usize] = 0xa5a5_0000 + i;
-        i = i + 1;
-    }
-    lent
-}
-
-pub fn u64s() -> [u64; 64]
-    ensures value { 64 ≡ length result }
-    ensures value_2 { result ≡ each (λ i. 0xa5a5_a5a5_0000_0000 + i) 64 }
-{
-    let mut lent = [0u64; 64];
-    let mut i: usize = 0;
-    while i < 64 {
-        lent[i] = 0xa5a5_a5a5_0000_0000 + i as u64;
-        i = i + 1;
-    }
-    lent
-}
-
-pub fn f64s() -> [f64; 64]
-    ensures value { 64 ≡ length result }
-    ensures value_2 { result ≡ each (λ i. of_bits binary64 (0xa5a5_a5a5_0000_0000 + i)) 64 }
-{
-    let mut lent = [0.0f64; 64];
-    let mut i: usize = 0;
-    while i < 64 {
-        lent[i] = float_bits::f64_of_bits(0xa5a5_a5a5_0000_0000 + i as u64);
-        i = i + 1;
-    }
-    lent
+    Ok(lent)
 }

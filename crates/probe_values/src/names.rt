@@ -1,159 +1,82 @@
 // Codes, their names and symbols: the crate `codes`.
-ghost use Rattle.std.specs.Prelude.{◌≤◌, length};
-
 use codes::{Activation, Family};
-use probe_text::request::{LENT, U8, U32};
-use probe_text::{answer, lent, request};
+use probe_text::fields::LENT;
+use probe_text::{Answer, Fields, ProbeError};
 
-// The fields FAMILY and VALUE, and where they end.
-#[derive(Clone, Copy)]
-struct Coded {
-    family: u64,
-    value: u32,
-    end: usize,
-}
-
-fn family_of(number: u64) -> Family {
-    match number {
+// The fields FAMILY and VALUE.
+fn family_and_value(fields: &mut Fields) -> Result<(Family, u32), ProbeError> {
+    let family = match fields.number::<u64>()? {
         0 => Family::Analyzer,
         1 => Family::Polarity,
         2 => Family::ScanMode,
         3 => Family::MsPower,
         4 => Family::ScanType,
         5 => Family::Ionization,
-        _ => Family::GenericType,
-    }
+        6 => Family::GenericType,
+        _ => return Err(ProbeError::Malformed),
+    };
+    let value = match family {
+        Family::GenericType => fields.number::<u32>()?,
+        _ => u32::from(fields.number::<u8>()?),
+    };
+    Ok((family, value))
 }
 
-fn most_value(family: u64) -> u64
-    ensures { result ≤ 0xffff_ffff }
-{
-    if family < 6 { U8 } else { U32 }
+pub(crate) fn code(fields: &mut Fields, answer: &mut Answer) -> Result<(), ProbeError> {
+    let (family, value) = family_and_value(fields)?;
+    fields.end()?;
+    answer.option(codes::decode(family, value))
 }
 
-fn family_and_value(rest: &[u8]) -> Coded {
-    let family = request::number(rest, 0, 6);
-    let value = request::number(rest, family.end, most_value(family.value));
-    Coded {
-        family: family.value,
-        value: value.value as u32,
-        end: value.end,
-    }
+pub(crate) fn symbol(fields: &mut Fields, answer: &mut Answer) -> Result<(), ProbeError> {
+    let (family, code) = family_and_value(fields)?;
+    fields.end()?;
+    answer.option(codes::symbol(family, code))
 }
 
-pub(crate) fn code(rest: &[u8], out: &mut [u8], n: usize) -> usize
-    ensures { result ≤ length out.new }
-{
-    let coded = family_and_value(rest);
-    if coded.end != rest.len() {
-        return answer::bad(out, n);
-    }
-    match codes::decode(family_of(coded.family), coded.value) {
-        Some(code) => answer::ok_number(out, n, code as u64),
-        None => answer::none(out, n),
-    }
+pub(crate) fn name(fields: &mut Fields, answer: &mut Answer) -> Result<(), ProbeError> {
+    let (family, code) = family_and_value(fields)?;
+    let mut lent = fields.lent::<u8>(LENT)?;
+    fields.end()?;
+    let written = codes::as_str(family, code, &mut lent);
+    answer.name(written, &lent)
 }
 
-pub(crate) fn symbol(rest: &[u8], out: &mut [u8], n: usize) -> usize
-    ensures { result ≤ length out.new }
-{
-    let coded = family_and_value(rest);
-    if coded.end != rest.len() {
-        return answer::bad(out, n);
-    }
-    match codes::symbol(family_of(coded.family), coded.value) {
-        Some(symbol) => answer::ok_number(out, n, symbol as u64),
-        None => answer::none(out, n),
-    }
-}
-
-fn put_name(family: Family, value: u32, lent: &mut [u8], out: &mut [u8], n: usize) -> usize
-    ensures { result ≤ length out.new }
-{
-    let written = codes::as_str(family, value, lent);
-    answer::name(out, n, written, lent)
-}
-
-pub(crate) fn name(rest: &[u8], out: &mut [u8], n: usize) -> usize
-    ensures { result ≤ length out.new }
-{
-    let coded = family_and_value(rest);
-    let length = request::number(rest, coded.end, LENT);
-    if length.end != rest.len() {
-        return answer::bad(out, n);
-    }
-    let mut text = lent::u8s();
-    let count = length.value as usize;
-    put_name(
-        family_of(coded.family),
-        coded.value,
-        &mut text[0..count],
-        out,
-        n,
-    )
-}
-
-pub(crate) fn activation(rest: &[u8], out: &mut [u8], n: usize) -> usize
-    ensures { result ≤ length out.new }
-{
-    let byte = request::number(rest, 0, U8);
-    if byte.end != rest.len() {
-        return answer::bad(out, n);
-    }
-    match Activation::from_byte((byte.value % 256) as u8) {
-        Activation::None => answer::none(out, n),
-        Activation::HCD => answer::ok_number(out, n, 1),
-        Activation::CID => answer::ok_number(out, n, 2),
-        Activation::ETD => answer::ok_number(out, n, 3),
-        Activation::EThcD => answer::ok_number(out, n, 4),
+pub(crate) fn activation(fields: &mut Fields, answer: &mut Answer) -> Result<(), ProbeError> {
+    let byte = fields.number()?;
+    fields.end()?;
+    match Activation::from_byte(byte) {
+        Activation::None => answer.none(),
+        Activation::HCD => answer.ok_number(1u64),
+        Activation::CID => answer.ok_number(2u64),
+        Activation::ETD => answer.ok_number(3u64),
+        Activation::EThcD => answer.ok_number(4u64),
         Activation::Unknown(byte) => {
-            let n = answer::ok_number(out, n, 5);
-            answer::number(out, n, byte as u64)
+            answer.ok_number(5u64)?;
+            answer.number(byte)
         }
     }
 }
 
-fn activation_of(number: u64) -> Activation {
-    match number {
+pub(crate) fn activation_name(fields: &mut Fields, answer: &mut Answer) -> Result<(), ProbeError> {
+    let activation = match fields.number::<u64>()? {
         0 => Activation::None,
         1 => Activation::HCD,
         2 => Activation::CID,
         3 => Activation::ETD,
         4 => Activation::EThcD,
         // The name does not depend on the byte.
-        _ => Activation::Unknown(0),
-    }
+        5 => Activation::Unknown(0),
+        _ => return Err(ProbeError::Malformed),
+    };
+    let mut lent = fields.lent::<u8>(LENT)?;
+    fields.end()?;
+    let written = activation.as_str(&mut lent);
+    answer.name(written, &lent)
 }
 
-fn put_activation_name(activation: Activation, lent: &mut [u8], out: &mut [u8], n: usize) -> usize
-    ensures { result ≤ length out.new }
-{
-    let written = activation.as_str(lent);
-    answer::name(out, n, written, lent)
-}
-
-pub(crate) fn activation_name(rest: &[u8], out: &mut [u8], n: usize) -> usize
-    ensures { result ≤ length out.new }
-{
-    let activation = request::number(rest, 0, 5);
-    let length = request::number(rest, activation.end, LENT);
-    if length.end != rest.len() {
-        return answer::bad(out, n);
-    }
-    let mut text = lent::u8s();
-    let count = length.value as usize;
-    put_activation_name(activation_of(activation.value), &mut text[0..count], out, n)
-}
-
-pub(crate) fn fixed_size(rest: &[u8], out: &mut [u8], n: usize) -> usize
-    ensures { result ≤ length out.new }
-{
-    let value = request::number(rest, 0, U32);
-    if value.end != rest.len() {
-        return answer::bad(out, n);
-    }
-    match codes::fixed_size(value.value as u32) {
-        Some(size) => answer::ok_number(out, n, size),
-        None => answer::none(out, n),
-    }
+pub(crate) fn fixed_size(fields: &mut Fields, answer: &mut Answer) -> Result<(), ProbeError> {
+    let value = fields.number()?;
+    fields.end()?;
+    answer.option(codes::fixed_size(value))
 }

@@ -1,0 +1,92 @@
+// The types that slices of have as elements: docs/REQUESTS.md, "A lent length" and "for each lent slice".
+ghost use Rattle.std.specs.Prelude.{◌≡◌, ℕ, ◌+◌, ◌%◌, ◌<◌};
+ghost use Rattle.std.specs.Float.{binary64};
+ghost use Rattle.std.specs.Float.Ieee.{of_bits};
+
+// No slice that is lent is longer.
+pub const LONGEST: usize = 1024;
+
+pub trait Element: Copy {
+    // How many hexadecimal digits it is printed in.
+    const DIGITS: usize;
+
+    // What element i holds before a slice is lent.
+    ghost filler_at: { ℕ → Self };
+
+    fn filler(i: usize) -> Self
+        requires { i < LONGEST }
+        ensures { result ≡ filler_at i };
+
+    fn bits(self) -> u64;
+}
+
+impl Element for u8 {
+    const DIGITS: usize = 2;
+
+    ghost filler_at = { λ i. (0xa5 + i) % 256 };
+
+    fn filler(i: usize) -> u8 {
+        ((0xa5 + i) % 256) as u8
+    }
+
+    fn bits(self) -> u64 {
+        u64::from(self)
+    }
+}
+
+impl Element for u16 {
+    const DIGITS: usize = 4;
+
+    ghost filler_at = { λ i. 0xa5a0 + i };
+
+    fn filler(i: usize) -> u16 {
+        0xa5a0 + i as u16
+    }
+
+    fn bits(self) -> u64 {
+        u64::from(self)
+    }
+}
+
+impl Element for u32 {
+    const DIGITS: usize = 8;
+
+    ghost filler_at = { λ i. 0xa5a5_0000 + i };
+
+    fn filler(i: usize) -> u32 {
+        0xa5a5_0000 + i as u32
+    }
+
+    fn bits(self) -> u64 {
+        u64::from(self)
+    }
+}
+
+impl Element for u64 {
+    const DIGITS: usize = 16;
+
+    ghost filler_at = { λ i. 0xa5a5_a5a5_0000_0000 + i };
+
+    fn filler(i: usize) -> u64 {
+        0xa5a5_a5a5_0000_0000 + i as u64
+    }
+
+    fn bits(self) -> u64 {
+        self
+    }
+}
+
+impl Element for f64 {
+    const DIGITS: usize = 16;
+
+    ghost filler_at = { λ i. of_bits binary64 (0xa5a5_a5a5_0000_0000 + i) };
+
+    fn filler(i: usize) -> f64 {
+        float_bits::f64_of_bits(u64::filler(i))
+    }
+
+    // Any NaN has the same bits.
+    fn bits(self) -> u64 {
+        float_bits::bits_of_f64(self)
+    }
+}

@@ -1,0 +1,162 @@
+// The fields of a request line, which stand one space apart.
+ghost use Rattle.std.specs.Prelude.{◌≡◌, ◌≤◌, ◌↔◌, IsOk, IfOk, OnOk, List, ℕ, length};
+ghost use Rattle.lists.specs.Written.{each};
+
+use crate::element::{Element, LONGEST};
+use crate::error::ProbeError;
+use crate::lent::lent;
+use std::alloc::Global;
+use std::str::FromStr;
+
+// The most elements of a slice that are lent, and of a list; the most of a preamble.
+pub const LENT: usize = 64;
+
+pub const PREAMBLE: usize = 256;
+
+// What is left of a line: nothing once its last field was read. After an error more fields are not to be read.
+#[derive(Clone, Copy)]
+pub struct Fields<'a> {
+    alloc: Global,
+    pub rest: Option<&'a str>,
+}
+
+impl<'a> Fields<'a> {
+    ghost use Rattle.probe_text.specs.Fields.{Reads, ReadsOne, IsHexOf};
+
+    pub fn new(alloc: Global, line: &'a str) -> Fields<'a> {
+        Fields {
+            alloc,
+            rest: Some(line),
+        }
+    }
+
+    // The next field as it stands.
+    pub fn text(&mut self) -> Result<&'a str, ProbeError>
+        ensures { IfOk result (λ field. Reads self.old.rest field.now self.new.rest) }
+    {
+        let Some(rest) = self.rest else {
+            return Err(ProbeError::Malformed);
+        };
+        let Some((field, others)) = rest.split_once(' ') else {
+            self.rest = None;
+            return Ok(rest);
+        };
+        self.rest = Some(others);
+        Ok(field)
+    }
+
+    // A decimal number of 1 to 20 digits that the type holds.
+    pub fn number<T: FromStr>(&mut self) -> Result<T, ProbeError>
+    where
+        T::Err: Drop,
+        ensures { IfOk result (λ x. (field : List ℕ) × Reads self.old.rest field self.new.rest × T.from_str_gives field (Ok x)) }
+    {
+        let digits = self.text()?;
+        if 20 < digits.len() || !digits.bytes().all(|digit| digit.is_ascii_digit()) {
+            return Err(ProbeError::Malformed);
+        }
+        digits.parse().map_err(|_| ProbeError::Malformed)
+    }
+
+    pub fn at_most(&mut self, most: u64) -> Result<u64, ProbeError>
+        ensures reads { OnOk result (ReadsOne self.old.rest self.new.rest) }
+        ensures bound { IfOk result (λ n. n ≤ most) }
+    {
+        let n = self.number()?;
+        if most < n {
+            return Err(ProbeError::Malformed);
+        }
+        Ok(n)
+    }
+
+    pub fn flag(&mut self) -> Result<bool, ProbeError>
+        ensures { OnOk result (ReadsOne self.old.rest self.new.rest) }
+    {
+        Ok(self.at_most(1)? == 1)
+    }
+
+    // Bytes in hexadecimal digits of lower case; `-` stands for none.
+    pub fn bytes(&mut self) -> Result<Vec<u8>, ProbeError>
+        ensures { IfOk result (λ v. (field : List ℕ) × Reads self.old.rest field self.new.rest × IsHexOf field v.items) }
+    {
+        let digits = self.text()?;
+        if digits == "-" {
+            return Ok(Vec::new(self.alloc));
+        }
+        if digits.is_empty() || digits.bytes().any(|digit| digit.is_ascii_uppercase()) {
+            return Err(ProbeError::Malformed);
+        }
+        Ok(hex::decode(self.alloc, digits)?)
+    }
+
+    // No more than so many bytes.
+    pub fn bytes_at_most(&mut self, most: usize) -> Result<Vec<u8>, ProbeError>
+        ensures reads { IfOk result (λ v. (field : List ℕ) × Reads self.old.rest field self.new.rest × IsHexOf field v.items) }
+        ensures bound { IfOk result (λ v. length v.items ≤ most) }
+    {
+        let bytes = self.bytes()?;
+        if most < bytes.len() {
+            return Err(ProbeError::Malformed);
+        }
+        Ok(bytes)
+    }
+
+    // A list of numbers by their little-endian bytes.
+    pub fn u64s(&mut self) -> Result<Vec<u64>, ProbeError>
+        ensures reads { OnOk result (ReadsOne self.old.rest self.new.rest) }
+        ensures bound { IfOk result (λ v. length v.items ≤ LENT) }
+    {
+        let bytes = self.bytes_at_most(8 * LENT)?;
+        let (numbers, beyond) = bytes.as_chunks::<8>();
+        if !beyond.is_empty() {
+            return Err(ProbeError::Malformed);
+        }
+        Ok(
+            numbers
+                .iter()
+                .map(|number| u64::from_le_bytes(*number))
+                .collect(self.alloc)?,
+        )
+    }
+
+    pub fn u16s(&mut self) -> Result<Vec<u16>, ProbeError>
+        ensures reads { OnOk result (ReadsOne self.old.rest self.new.rest) }
+        ensures bound { IfOk result (λ v. length v.items ≤ LENT) }
+    {
+        let bytes = self.bytes_at_most(2 * LENT)?;
+        let (numbers, beyond) = bytes.as_chunks::<2>();
+        if !beyond.is_empty() {
+            return Err(ProbeError::Malformed);
+        }
+        Ok(
+            numbers
+                .iter()
+                .map(|number| u16::from_le_bytes(*number))
+                .collect(self.alloc)?,
+        )
+    }
+
+    // A lent length, and the slice that is lent.
+    pub fn lent<T: Element>(&mut self, most: usize) -> Result<Vec<T>, ProbeError>
+        requires { most ≤ LONGEST }
+        ensures reads { OnOk result (ReadsOne self.old.rest self.new.rest) }
+        ensures bound { IfOk result (λ v. length v.items ≤ most) }
+        ensures items { IfOk result (λ v. v.items ≡ each T.filler_at (length v.items)) }
+    {
+        let n: usize = self.number()?;
+        if most < n {
+            return Err(ProbeError::Malformed);
+        }
+        Ok(lent(self.alloc, n)?)
+    }
+
+    // Whether all fields were read.
+    pub fn end(&self) -> Result<(), ProbeError>
+        ensures { IsOk result ↔ (self.now.rest ≡ None) }
+    {
+        match self.rest {
+            None => Ok(()),
+            Some(_) => Err(ProbeError::Malformed),
+        }
+    }
+}
