@@ -1,4 +1,4 @@
-// The types that slices of have as elements: docs/REQUESTS.md, "A lent length" and "for each lent slice".
+// The elements of lent slices: what they hold before the call, and how they are printed after it (docs/REQUESTS.md, "Form").
 ghost use Rattle.std.specs.Prelude.{◌≡◌, ℕ, ◌+◌, ◌%◌, ◌<◌};
 ghost use Rattle.std.specs.Float.{binary64};
 ghost use Rattle.std.specs.Float.Ieee.{of_bits};

@@ -136,6 +136,19 @@ impl<'a> Fields<'a> {
         )
     }
 
+    // A list of floats by their bits.
+    pub fn f64s(&mut self) -> Result<Vec<f64>, ProbeError>
+        ensures reads { OnOk result (ReadsOne self.old.rest self.new.rest) }
+        ensures bound { IfOk result (λ v. length v.items ≤ LENT) }
+    {
+        let bits = self.u64s()?;
+        Ok(
+            bits.iter()
+                .map(|bits| float_bits::f64_of_bits(*bits))
+                .collect(self.alloc)?,
+        )
+    }
+
     // A lent length, and the slice that is lent.
     pub fn lent<T: Element>(&mut self, most: usize) -> Result<Vec<T>, ProbeError>
         requires { most ≤ LONGEST }
