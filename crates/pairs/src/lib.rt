@@ -2,20 +2,25 @@
 // scan_data.rs), and those of a peak list.
 #![tactic(auto)]
 
-ghost use Rattle.std.specs.Prelude.{◌≡◌, cond, ◌+◌, ◌*◌, ◌≤◌, length};
+ghost use Rattle.std.specs.Prelude.{◌≡◌, ◌≤◌, length};
+ghost use Rattle.std.specs.Float.{binary32, binary64};
+ghost use Rattle.std.specs.Float.Ieee.{of_bits};
+ghost use Rattle.std.proofs.Common.{ap};
 ghost use Rattle.lists.specs.Left.{firsts, seconds, pairs_if_fit, LeftPairs};
-ghost use Rattle.lists.specs.Written.{each, over};
+ghost use Rattle.lists.specs.Written.{over};
+ghost use Rattle.parser.specs.Parser.{f64_at, f32_at};
 ghost use Rattle.parser.specs.Walk.{sum};
+ghost use Rattle.reader.specs.Beyond.{no_words};
 ghost use Rattle.packet_profile.specs.Profile.{points as points_of};
-ghost use Rattle.peaks.specs.Peaks.{peaks_at};
+ghost use Rattle.peaks.specs.Peaks.{row_peaks};
 ghost use Rattle.pairs.specs.Pairs.{chunks_of, profile_pairs, peak_pairs};
-ghost use Rattle.pairs.specs.Internal.{float_at};
 
 use calibration::{Bins, write_chunk};
 use float_bits::{f64_of_bits, widened};
 use lists::holds;
 use packet_profile::{Profile, fudge_at, signal_at};
-use reader::{saturating_add, u32_at, u64_at};
+use peaks::{PeakRow, write_row};
+use reader::{Stored, u32_at, u64_at};
 use refusal::Refusal;
 
 // How many pairs a profile has. The walk ends at the first chunk that the run does not hold, whatever count the record says.
@@ -128,21 +133,6 @@ impl Stored for Single {
     }
 }
 
-// The columns of a row's pairs, each as far as its slice holds them all.
-fn write_columns(run: &[u8], row: PeakRow, mz: &mut [f64], intensity: &mut [f64])
-    ensures mz_after { mz.new ≡ fitting (firsts (peak_pairs (row_peaks row run.now))) mz.old }
-    ensures intensity_after { intensity.new ≡ fitting (seconds (peak_pairs (row_peaks row run.now))) intensity.old }
-{
-    let PeakRow { at, stride, count, wide } = row;
-    if wide {
-        let _ = copy::<Double>(run, at, stride, count, mz);
-        let _ = copy::<Single>(run, saturating_add(at, 8), stride, count, intensity);
-        return;
-    }
-    let _ = copy::<Single>(run, at, stride, count, mz);
-    let _ = copy::<Single>(run, saturating_add(at, 4), stride, count, intensity);
-}
-
 // The pairs of a row of peaks.
 pub fn peak_pairs(
     run: &[u8],
@@ -152,10 +142,5 @@ pub fn peak_pairs(
 ) -> Result<u64, Refusal>
     ensures { LeftPairs (λ m i. pairs_if_fit m i (peak_pairs (row_peaks row run.now))) mz.old intensity.old result mz.new intensity.new }
 {
-    let n = row.count;
-    if holds(n, mz.len() as u64, holds(n, intensity.len() as u64, true)) {
-        write_columns(run, row, mz, intensity);
-        return Ok(n);
-    }
-    Err(Refusal::NoRoom)
+    write_row::<Double, Single, Single>(run, row, mz, intensity)
 }
