@@ -48,7 +48,7 @@ fn event(preamble: &[u8], precursors: &[u64]) -> ScanEvent {
 }
 
 // The index, right after the header.
-fn write_index(tray: &mut [u8]) -> CountAnswer {
+fn write_index(tray: &mut [u8]) -> Result<u64, Refusal> {
     if tray.len() < 104 {
         return Err(Refusal::NoRoom);
     }
@@ -56,7 +56,7 @@ fn write_index(tray: &mut [u8]) -> CountAnswer {
 }
 
 // An MS2 event of a triple quadrupole, positive, with one reaction. It stands after the index.
-fn write_events(tray: &mut [u8]) -> CountAnswer {
+fn write_events(tray: &mut [u8]) -> Result<u64, Refusal> {
     let mut preamble = [0u8; 128];
     preamble[4] = 1;
     preamble[6] = 2;
@@ -105,11 +105,11 @@ fn main(rt: HostRuntime) -> anyhow::Result<()> {
     let index = write_index(&mut tray);
     let events = write_events(&mut tray);
     store_data(&mut tray);
-    match index {
-        Err(_) => bail!("the entry was refused"),
-        Ok(_) => match events {
-            Err(_) => bail!("the event was refused"),
-            Ok(_) => rt.write_all(&tray[..]).context("standard output"),
-        },
+    if index.is_err() {
+        bail!("the entry was refused");
     }
+    if events.is_err() {
+        bail!("the event was refused");
+    }
+    rt.write_all(&tray[..]).context("standard output")
 }

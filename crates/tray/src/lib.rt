@@ -17,10 +17,10 @@ fn header_with(tray: &[u8], k: u32) -> Result<TrayHeader, Refusal>
     ensures { outcome_of result ≡ header_with 4096 6 k tray.now }
 {
     let h = read_tray_header(tray)?;
-if k < h.scans {
-                return Ok(h);
-            }
-            Err(Refusal::NoSuchScan)
+    if k < h.scans {
+        return Ok(h);
+    }
+    Err(Refusal::NoSuchScan)
 }
 
 // Scan k of a tray, whose event stands at this place of the run: who goes from scan to scan need not walk the events anew.
@@ -40,19 +40,20 @@ pub fn read_scan_from(
         (outcome_of result) (preamble.new ∷ precursors.new ∷ energies.new ∷ coefficients.new ∷ []) mz.new intensity.new }
 {
     let h = header_with(tray, k)?;
-let read = scan_at(
-                &tray[32..],
-                at,
-                h,
-                k,
-                preamble,
-                precursors,
-                energies,
-                coefficients,
-                mz,
-                intensity,
-            );
-            read.scan
+    let run = &tray[32..];
+    let read = scan_at(
+        run,
+        at,
+        h,
+        k,
+        preamble,
+        precursors,
+        energies,
+        coefficients,
+        mz,
+        intensity,
+    );
+    read.scan
 }
 
 // Where event k stands in the run.
@@ -60,14 +61,14 @@ pub fn event_of(tray: &[u8], k: u32) -> Result<u64, Refusal>
     ensures { outcome_of result ≡ event_of 4096 6 k tray.now }
 {
     let h = header_with(tray, k)?;
-event_place(
-            &tray[32..],
-            h.events as u64,
-            k as u16,
-            h.version,
-            h.primary,
-            h.dependent,
-        )
+    event_place(
+        &tray[32..],
+        h.events as u64,
+        k as u16,
+        h.version,
+        h.primary,
+        h.dependent,
+    )
 }
 
 // Where the event at a place of the run ends, and the next one starts.
@@ -75,17 +76,14 @@ pub fn next_event(tray: &[u8], at: u64) -> Result<u64, Refusal>
     ensures { outcome_of result ≡ next_event 4096 6 at tray.now }
 {
     let h = read_tray_header(tray)?;
-event_end(&tray[32..], at, h.version, h.primary, h.dependent)
+    event_end(&tray[32..], at, h.version, h.primary, h.dependent)
 }
 
 // A place to read event k at. Where there is none it is after every run, where the event runs out again, after entry k.
 fn place_or_end(found: Result<u64, Refusal>) -> u64
     ensures { result ≡ place_or_end (outcome_of found) }
 {
-    match found {
-        Err(_) => u64::MAX,
-        Ok(at) => at,
-    }
+    found.unwrap_or(u64::MAX)
 }
 
 // Scan k of a tray.

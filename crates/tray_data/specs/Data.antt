@@ -79,4 +79,3 @@ content_at (Peaks w) s = centroids (peaks_at w.wide w.stride s w.at w.count)
 abbrev pub count_of : ScanData → ℕ
 count_of (Profile p) = p.points
 count_of (Peaks w) = w.count
-

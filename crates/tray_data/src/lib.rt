@@ -57,19 +57,19 @@ fn narrow_peaks(found: Result<(u64, u64), Refusal>, stride: u64) -> Result<ScanD
     ensures { outcome_of result ≡ on_ok (narrow_peaks stride) (outcome_of found) }
 {
     let (place, count) = found?;
-Ok(ScanData::Peaks(PeakRow {
-            at: place,
-            stride,
-            count,
-            wide: false,
-        }))
+    Ok(ScanData::Peaks(PeakRow {
+        at: place,
+        stride,
+        count,
+        wide: false,
+    }))
 }
 
 fn find_packet(run: &[u8], at: u64) -> Result<ScanData, Refusal>
     ensures { outcome_of result ≡ on_ok (λ v. packet_data v.0.profile v.0) (find_places at run.now) }
 {
     let places = find_places(run, at)?;
-Ok(packet_data(places))
+    Ok(packet_data(places))
 }
 
 // The data at `data` and `offset`, in a run of this format.

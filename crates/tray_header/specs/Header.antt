@@ -37,4 +37,3 @@ read_header limit number tray = outcome (single 1 0 header (λ h _. judged limit
 -- what `read_tray_header` answers: at most 4,096 scans, or refusal 6
 abbrev pub read_tray_header : List ℕ → Outcome TrayHeader
 read_tray_header = read_header 4096 6
-

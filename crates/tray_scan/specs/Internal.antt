@@ -30,12 +30,9 @@ with_data h entry e next =
 unfoldable pub in_turn : TrayHeader → ℕ → Outcome (Event × ℕ) → List ℕ → Outcome ScanParts
 in_turn h k event run = and_then (entry_of h k run) (λ entry. and_then event (λ v. outcome (with_data h entry v.0 v.1) run))
 
--- what stands at these places, or why there is no scan
+-- what stands at these places
 abbrev pub parts_at : List ℕ → ScanPlaces → ScanParts
 parts_at run p = record { entry = p.entry; event = event_at run p.event; next = p.event.next; content = content_at p.«data» run }
-
-abbrev pub outcome_of_scan_places : List ℕ → Result ScanPlaces Refusal → Outcome ScanParts
-outcome_of_scan_places run x = on_ok (parts_at run) (outcome_of x)
 
 -- data give as many pairs as they count, by any coefficients: so it is with all that were found
 abbrev pub CountHolds : List ℕ → ScanData → Type 0

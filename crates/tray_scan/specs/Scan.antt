@@ -62,4 +62,3 @@ end_in h at run = event_end h.version h.primary h.dependent at run
 abbrev pub place_or_end : Outcome ℕ → ℕ
 place_or_end (ok at) = at
 place_or_end (refused number carries) = 2 ^ 64 - 1
-

@@ -4,10 +4,11 @@
 
 ghost use Rattle.std.specs.Prelude.{◌≡◌, [], ◌∷◌};
 ghost use Rattle.refusal.specs.Number.{outcome_of};
+ghost use Rattle.refusal.specs.Outcome.{on_ok};
 ghost use Rattle.lists.specs.Left.{LeftListsAndPairs};
 ghost use Rattle.tray_data.specs.Data.{find_data};
 ghost use Rattle.tray_scan.specs.Scan.{format_in, scan_if_fits, scan_at, end_in, place_or_end};
-ghost use Rattle.tray_scan.specs.Internal.{entry_of, in_turn, parts_at, outcome_of_scan_places, CountHolds, CountHoldsIn, event_found, next_place};
+ghost use Rattle.tray_scan.specs.Internal.{entry_of, in_turn, parts_at, CountHolds, CountHoldsIn, event_found, next_place};
 
 use event_record::{Places, ScanEvent};
 use event_writer::write_event;
@@ -68,18 +69,23 @@ fn data_of(run: &[u8], h: TrayHeader, entry: ScanIndexEntry) -> Result<ScanData,
 }
 
 // Entry k and its data, with the event that was sought.
-fn find_scan(run: &[u8], h: TrayHeader, k: u32, event: Result<Places, Refusal>) -> Result<ScanPlaces, Refusal>
-    ensures result_value { outcome_of_scan_places run.now result ≡ in_turn h k (event_found run.now event) run.now }
+fn find_scan(
+    run: &[u8],
+    h: TrayHeader,
+    k: u32,
+    event: Result<Places, Refusal>,
+) -> Result<ScanPlaces, Refusal>
+    ensures result_value { on_ok (parts_at run.now) (outcome_of result) ≡ in_turn h k (event_found run.now event) run.now }
     ensures count_holds_in { CountHoldsIn run.now result }
 {
     let entry = entry_of(run, h, k)?;
-let places = event?;
-let data = data_of(run, h, entry)?;
-Ok(ScanPlaces {
-                    entry,
-                    event: places,
-                    data,
-                })
+    let places = event?;
+    let data = data_of(run, h, entry)?;
+    Ok(ScanPlaces {
+        entry,
+        event: places,
+        data,
+    })
 }
 
 // A scan that was found, where the slices hold it. The event's room is tested where it is written.
@@ -108,15 +114,15 @@ fn write_scan(
         holds(pairs, intensity.len() as u64, true),
     ) {
         let read = write_event(run, places, preamble, precursors, energies, coefficients)?;
-let event = read.event;
-                let n = event.coefficients as usize;
-                let _ = data_pairs(run, data, &coefficients[..n], mz, intensity);
- return Ok(Scan {
-                    entry,
-                    event,
-                    next: read.next,
-                    pairs,
-                });
+        let event = read.event;
+        let n = event.coefficients as usize;
+        let _ = data_pairs(run, data, &coefficients[..n], mz, intensity);
+        return Ok(Scan {
+            entry,
+            event,
+            next: read.next,
+            pairs,
+        });
     }
     Err(Refusal::NoRoom)
 }
@@ -152,10 +158,7 @@ pub fn scan_at(
     let event = find_event(run, at, h.version, h.primary, h.dependent);
     let next = next_place(event);
     match find_scan(run, h, k, event) {
-        Err(r) => ScanAndNext {
-            scan: Err(r),
-            next,
-        },
+        Err(r) => ScanAndNext { scan: Err(r), next },
         Ok(places) => ScanAndNext {
             scan: write_scan(
                 run,

@@ -1,4 +1,5 @@
 -- The header and the event decide.
+use Rattle.std.proofs.lemmas.Result.{err_from_is_err_and}
 use mathlib.Core.Path.{◌≡◌, sym, ap, ◌∙◌}
 use native.Mathlib.Omega.{arith}
 use Rattle.refusal.specs.Outcome.{ok}
@@ -9,23 +10,25 @@ use Rattle.tray_scan.specs.Scan.{end_in}
 use Rattle.tray.specs.Scan.{next_event}
 use Rattle.tray.proofs.Headers.{run_is}
 use Rattle.tray.proofs.next_event.Goals as goal
-use Rattle.tray.proofs.next_event.Goals.{In-Header}
+use Rattle.tray.proofs.next_event.Goals.{In_ok-h}
 
-header : (c : In-Header) → ok c.in-Header.h ≡ read_tray_header c.args.tray.now
-header c = sym (ap outcome_of c.in-Header.is) ∙ c.read_tray_header.ensures
+header : (c : In_ok-h) → ok c.in_ok-h.h ≡ read_tray_header c.args.tray.now
+header c = sym (ap outcome_of c.in_ok-h.was) ∙ c.read_tray_header.ensures
 
 pub slice_bounds-event_end-count : goal.slice_bounds-event_end-count
-slice_bounds-event_end-count c = omega (arith, (whole 4096 6 _ (header (goal.at.slice_bounds-event_end-count c).In-Header)).size)
+slice_bounds-event_end-count c = omega (arith, (whole 4096 6 _ (header (goal.at.slice_bounds-event_end-count c).In_ok-h)).size)
 
 pub slice_bounds-event_end-start : goal.slice_bounds-event_end-start
-slice_bounds-event_end-start c = omega (arith, (whole 4096 6 _ (header (goal.at.slice_bounds-event_end-start c).In-Header)).size)
+slice_bounds-event_end-start c = omega (arith, (whole 4096 6 _ (header (goal.at.slice_bounds-event_end-start c).In_ok-h)).size)
 
-pub returns-in-Err : goal.returns-in-Err
+pub returns-in_err-h : goal.returns-in_err-h
 unfolding next_event
-returns-in-Err c = rw (← (sym (ap outcome_of c.in-Err.is) ∙ c.read_tray_header.ensures))
+returns-in_err-h c =
+    let p = err_from_is_err_and c.from_residual.result c.from_residual.ensures.1 in
+    rw (p.1, p.2) (rw (← (sym (ap outcome_of c.in_err-h.was) ∙ c.read_tray_header.ensures)))
 
-pub returns-in-Header : goal.returns-in-Header
+pub returns : goal.returns
 unfolding next_event
-returns-in-Header c =
+returns c =
     let a = c.args in
-    rw (← header (goal.at.returns-in-Header c).In-Header) (c.event_end.ensures ∙ ap (end_in c.in-Header.h a.at) (run_is a.tray.now))
+    rw (← header (goal.at.returns c).In_ok-h) (c.event_end.ensures ∙ ap (end_in c.in_ok-h.h a.at) (run_is a.tray.now))
