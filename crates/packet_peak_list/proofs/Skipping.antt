@@ -14,8 +14,8 @@ use Rattle.packet_header.specs.Header.{header, read_packet_header}
 use Rattle.packet_header.specs.declared.PacketHeader.{PacketHeader}
 use Rattle.packet_header.proofs.Size.{header_sized, header_read, header_ran_out}
 use Rattle.lists.specs.Left.{pairs_if_fit}
-use Rattle.peaks.specs.Peaks.{Peak, peaks_at}
-use Rattle.packet_peak_list.specs.PeakList.{item_size, peak_list, list_place, read_peaks, skipping, after_skipped, skip_to_peaks, read_peaks_only}
+use Rattle.peaks.specs.Peaks.{Peak, peaks_at, row_peaks}
+use Rattle.packet_peak_list.specs.PeakList.{item_size, row, peak_list, list_place, read_peaks, skipping, after_skipped, skip_to_peaks, read_peaks_only}
 use Rattle.packet_peak_list.specs.declared.PeakList.{PeakList}
 use Rattle.packet_peak_list.specs.declared.HeaderAndPeaks.{HeaderAndPeaks}
 use Rattle.packet_peak_list.proofs.Lists.{listed}
@@ -95,10 +95,9 @@ skipped_of s at {p} e =
     })
 
 -- so its peaks are those that are handed out
-pub peaks_only : (s : List ℕ) (at m a size : ℕ) {p : HeaderAndPeaks} → ok p ≡ skip_to_peaks at s → size ≡ item_size p.list.wide
-    → pairs_if_fit m a (peaks_at p.list.wide size s p.list.at p.list.count) ≡ read_peaks_only m a at s
+pub peaks_only : (s : List ℕ) (at m a : ℕ) {p : HeaderAndPeaks} → ok p ≡ skip_to_peaks at s → pairs_if_fit m a (row_peaks (row p.list) s) ≡ read_peaks_only m a at s
 unfolding read_peaks_only outcome
-peaks_only s at m a size e z = let k = skipped_of s at e in rw (z, k.there) (sym (ap (pairs_if_fit m a) k.stand))
+peaks_only s at m a e = let k = skipped_of s at e in rw k.there (sym (ap (pairs_if_fit m a) k.stand))
 
 pub peaks_only_short : (s : List ℕ) (at m a : ℕ) {n : ℕ} {carries : List ℕ} → refused n carries ≡ skip_to_peaks at s → refused n carries ≡ read_peaks_only m a at s
 unfolding read_peaks_only skip_to_peaks outcome

@@ -7,6 +7,7 @@ use Rattle.packet_header.specs.Header.{header}
 use Rattle.packet_header.specs.declared.PacketHeader.{PacketHeader}
 use Rattle.lists.specs.Left.{pairs_if_fit}
 use Rattle.peaks.specs.Peaks.{Peak, peak}
+use Rattle.peaks.specs.declared.PeakRow.{PeakRow}
 use Rattle.packet_peak_list.specs.declared.PeakList.{PeakList}
 use Rattle.packet_peak_list.specs.declared.HeaderAndPeaks.{HeaderAndPeaks}
 
@@ -27,6 +28,10 @@ abbrev pub list_place : PacketHeader → ℕ → List Peak → PeakList
 list_place h at peaks =
     let first = at + cond (eqb h.peak_list_size 0) 0 4 in
     record { at = first; count = length peaks; wide = is_wide h.layout; next = first + length peaks * item_size (is_wide h.layout) }
+
+-- its peaks, one right after the other
+abbrev pub row : PeakList → PeakRow
+row l = record { at = l.at; stride = item_size l.wide; count = l.count; wide = l.wide }
 
 -- what `read_peaks` answers
 unfoldable pub read_peaks : PacketHeader → ℕ → List ℕ → Outcome PeakList

@@ -4,10 +4,10 @@
 ghost use Rattle.std.specs.Prelude.{◌≡◌, ◌≤◌};
 ghost use Rattle.refusal.specs.Number.{outcome_of};
 ghost use Rattle.lists.specs.Left.{LeftPairs};
-ghost use Rattle.packet_peak_list.specs.PeakList.{is_wide, item_size, read_peaks, skip_to_peaks, read_peaks_only};
+ghost use Rattle.packet_peak_list.specs.PeakList.{row, is_wide, item_size, read_peaks, skip_to_peaks, read_peaks_only};
 
 use packet_header::PacketHeader;
-use peaks::write_peaks;
+use peaks::{PeakRow, write_peaks};
 use reader::{remaining, u32_at};
 use refusal::{Part, Refusal};
 
@@ -40,6 +40,20 @@ pub fn item_size(wide: bool) -> u64
     ensures upper_bound { result ≤ 12 }
 {
     if wide { 12 } else { 8 }
+}
+
+impl PeakList {
+    // Its peaks, one right after the other.
+    pub fn row(self) -> PeakRow
+        ensures { result ≡ row self }
+    {
+        PeakRow {
+            at: self.at,
+            stride: item_size(self.wide),
+            count: self.count,
+            wide: self.wide,
+        }
+    }
 }
 
 // The peak list at a place of the run. Nothing is written: the peaks stay where they are.
@@ -93,14 +107,5 @@ pub fn read_peaks_only(
     ensures { LeftPairs (λ m a. read_peaks_only m a at run.now) mz.old abundance.old result mz.new abundance.new }
 {
     let p = skip_to_peaks(run, at)?;
-    let list = p.list;
-    write_peaks(
-        run,
-        list.at,
-        item_size(list.wide),
-        list.count,
-        list.wide,
-        mz,
-        abundance,
-    )
+    write_peaks(run, p.list.row(), mz, abundance)
 }

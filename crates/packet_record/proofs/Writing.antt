@@ -14,9 +14,9 @@ use Rattle.lists.proofs.Laws.{length-each, each_same, fitting_all}
 use Rattle.lists.proofs.Left.{fits_true, lists_no_room, lists_written}
 use Rattle.parser.specs.Parser.{word_at}
 use Rattle.reader.proofs.Words.{le_shifted}
-use Rattle.peaks.specs.Peaks.{peaks_at}
+use Rattle.peaks.specs.Peaks.{row_peaks}
 use Rattle.peaks.proofs.Columns.{length-peaks}
-use Rattle.packet_peak_list.specs.PeakList.{item_size}
+use Rattle.packet_peak_list.specs.PeakList.{item_size, row}
 use Rattle.packet_record.specs.Packet.{contents_at, record_of, lists_of, packet_if_fits, node_bytes}
 use Rattle.packet_record.specs.declared.PacketPlaces.{PacketPlaces}
 use Rattle.packet_record.specs.declared.ScanDataPacket.{ScanDataPacket}
@@ -52,16 +52,16 @@ module _ (v : PacketPlaces) (s m a d q : List ℕ) where
 
   -- where the slices hold them, all lists are written
   module _ (fit : room_for ≡ true) where
-    pub all_written : {stride place : ℕ} {t : Outcome ℕ} {m' a' d' q' : List ℕ} → length s < 2 ^ 64 → stride ≡ item_size v.list.wide → place ≡ min (v.labels.unknown_at + 4) (2 ^ 64 - 1)
-        → Left length columns (pairs_if_fit (length m) (length a) (peaks_at v.list.wide stride s v.list.at v.list.count)) (m, a) t (m', a')
+    pub all_written : {place : ℕ} {t : Outcome ℕ} {m' a' d' q' : List ℕ} → length s < 2 ^ 64 → place ≡ min (v.labels.unknown_at + 4) (2 ^ 64 - 1)
+        → Left length columns (pairs_if_fit (length m) (length a) (row_peaks (row v.list) s)) (m, a) t (m', a')
         → d' ≡ fitting (contents_at s v).labels.descriptors d → q' ≡ fitting (each (λ i. word_at s (place + i * 4) 4) v.labels.resolutions) q
         → (m' ∷ a' ∷ d' ∷ q' ∷ []) ≡ over_all (lists_of (contents_at s v)) (m ∷ a ∷ d ∷ q ∷ [])
-    all_written {place = place} size e there l hd hq =
+    all_written {place = place} size there l hd hq =
         let k = contents_at s v in
         let w = fits_true (length (firsts k.peaks) ∷ length (seconds k.peaks) ∷ length k.labels.descriptors ∷ length k.labels.resolutions ∷ []) (length m ∷ length a ∷ length d ∷ length q ∷ []) fit in
         let ps = length-map k.peaks (λ p. p.0) in
         let qs = length-map k.peaks (λ p. p.1) in
-        let peaks = pairs_whole k.peaks (omega (arith, w.0)) (omega (arith, w.1.0)) (rw e at l) in
+        let peaks = pairs_whole k.peaks (omega (arith, w.0)) (omega (arith, w.1.0)) l in
         let word : ℕ → ℕ → ℕ = λ p i. word_at s (p + i * 4) 4 in
         let words : each (word place) v.labels.resolutions ≡ each (word (v.labels.unknown_at + 4)) v.labels.resolutions =
         each_same _ _ v.labels.resolutions (λ i. rw there (le_shifted s (v.labels.unknown_at + 4) (i * 4) 4 size)) in

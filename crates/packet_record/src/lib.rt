@@ -75,8 +75,7 @@ fn write_lists(
 {
     let list = places.list;
     let labels = places.labels;
-    let stride = item_size(list.wide);
-    let _ = peaks::write_peaks(run, list.at, stride, list.count, list.wide, mz, abundance);
+    let _ = peaks::write_peaks(run, list.row(), mz, abundance);
     let _ = copy::<u32>(
         run,
         labels.descriptors_at,

@@ -12,7 +12,7 @@ ghost use Rattle.srm_flat_peaks.specs.Flat.{is_plausible, attempt, attempts, rea
 ghost use Rattle.srm_flat_peaks.specs.Internal.{attempt_answer};
 
 use float_bits::widened;
-use peaks::write_peaks;
+use peaks::{PeakRow, write_peaks};
 use reader::{remaining, saturating_add, u32_at};
 use refusal::{Part, Refusal};
 
@@ -95,5 +95,11 @@ pub fn read_flat_peaks(
     ensures { LeftPairs (λ m a. read_flat_peaks m a «data» cum_end data_size run.now) mz.old abundance.old result mz.new abundance.new }
 {
     let (place, count) = find_flat_peaks(run, data, cum_end, data_size)?;
-    write_peaks(run, place, 8, count, false, mz, abundance)
+    let row = PeakRow {
+        at: place,
+        stride: 8,
+        count,
+        wide: false,
+    };
+    write_peaks(run, row, mz, abundance)
 }

@@ -9,7 +9,7 @@ ghost use Rattle.srm_scan.specs.Scan.{read_srm_peaks, find_srm_peaks, read_srm_w
 ghost use Rattle.srm_scan.specs.Internal.{channels, windows_at};
 
 use lists::holds;
-use peaks::write_peaks;
+use peaks::{PeakRow, write_peaks};
 use reader::{copy, remaining, saturating_add, u32_at};
 use refusal::{Part, Refusal};
 
@@ -51,7 +51,13 @@ pub fn read_scan_srm_v66(
     ensures { LeftPairs (λ m a. read_srm_peaks m a «data» offset run.now) mz.old abundance.old result mz.new abundance.new }
 {
     let (place, count) = find_srm_peaks(run, data, offset)?;
-    write_peaks(run, place, 12, count, false, mz, abundance)
+    let row = PeakRow {
+        at: place,
+        stride: 12,
+        count,
+        wide: false,
+    };
+    write_peaks(run, row, mz, abundance)
 }
 
 // n windows, where the slices hold them.

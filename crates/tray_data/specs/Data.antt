@@ -4,8 +4,8 @@ use Rattle.refusal.specs.Outcome.{Outcome, ok, refused, on_ok}
 use Rattle.parser.specs.Parser.{Parser, done, ◌>>=◌, saturating_add}
 use Rattle.scan_format.specs.declared.ScanDataFormat.{ScanDataFormat}
 use Rattle.scan_format.specs.declared.ScanDataFormat.TheVariants.{PacketHeader, FlatV63, FlatV66}
-use Rattle.peaks.specs.Peaks.{Peak, peaks_at}
-use Rattle.packet_peak_list.specs.PeakList.{item_size}
+use Rattle.peaks.specs.Peaks.{Peak, row_peaks}
+use Rattle.packet_peak_list.specs.PeakList.{row}
 use Rattle.packet_profile.specs.Profile.{Chunk}
 use Rattle.packet_profile.specs.declared.Profile.{Profile as ProfileRecord}
 use Rattle.packet_record.specs.Packet.{OptionalProfile, absent, present}
@@ -60,7 +60,7 @@ pairs coefficients (centroids ps) = peak_pairs ps
 
 -- what `find_data` answers: the same data, by their places
 abbrev pub packet_data : Option ProfileRecord → PacketPlaces → ScanData
-packet_data None v = Peaks (record { at = v.list.at; stride = item_size v.list.wide; count = v.list.count; wide = v.list.wide })
+packet_data None v = Peaks (row v.list)
 packet_data (Some p) v = Profile p
 
 abbrev pub narrow_peaks : ℕ → ℕ × ℕ → ScanData
@@ -74,7 +74,7 @@ find_data FlatV66 place offset size run = on_ok (narrow_peaks 12) (find_srm_peak
 -- what stands at these places, and how many pairs it gives
 abbrev pub content_at : ScanData → List ℕ → Content
 content_at (Profile p) s = profile (bins_of p) (chunks_of p s)
-content_at (Peaks w) s = centroids (peaks_at w.wide w.stride s w.at w.count)
+content_at (Peaks w) s = centroids (row_peaks w s)
 
 abbrev pub count_of : ScanData → ℕ
 count_of (Profile p) = p.points

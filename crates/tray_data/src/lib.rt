@@ -9,26 +9,16 @@ ghost use Rattle.refusal.specs.Outcome.{on_ok};
 ghost use Rattle.packet_places.specs.Places.{find_places};
 ghost use Rattle.tray_data.specs.Data.{packet_data, narrow_peaks, pairs, find_data, content_at, count_of};
 
-use packet_peak_list::item_size;
 use packet_places::find_places;
 use packet_profile::Profile;
 use packet_record::PacketPlaces;
 use pairs::{peak_pairs, to_mz_intensity};
+use peaks::PeakRow;
 use reader::saturating_add;
 use refusal::Refusal;
 use scan_format::ScanDataFormat;
 use srm_flat_peaks::find_flat_peaks;
 use srm_scan::find_srm_peaks;
-
-// Peaks at equal distances: an m/z, and right after it the abundance.
-#[derive(Clone, Copy)]
-pub struct PeakRow {
-    pub at: u64,
-    pub stride: u64,
-    pub count: u64,
-    // The m/z is stored as an f64.
-    pub wide: bool,
-}
 
 #[derive(Clone, Copy)]
 pub enum ScanData {
@@ -40,16 +30,9 @@ pub enum ScanData {
 fn packet_data(places: PacketPlaces) -> ScanData
     ensures { result ≡ packet_data places.profile places }
 {
-    let list = places.list;
-    let profile = places.profile;
-    match profile {
+    match places.profile {
         Some(p) => ScanData::Profile(p),
-        None => ScanData::Peaks(PeakRow {
-            at: list.at,
-            stride: item_size(list.wide),
-            count: list.count,
-            wide: list.wide,
-        }),
+        None => ScanData::Peaks(places.list.row()),
     }
 }
 
@@ -111,6 +94,6 @@ pub fn data_pairs(
 {
     match found {
         ScanData::Profile(p) => to_mz_intensity(run, p, coefficients, mz, intensity),
-        ScanData::Peaks(w) => peak_pairs(run, w.at, w.stride, w.count, w.wide, mz, intensity),
+        ScanData::Peaks(w) => peak_pairs(run, w, mz, intensity),
     }
 }

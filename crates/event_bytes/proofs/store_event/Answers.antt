@@ -5,9 +5,9 @@ use Rattle.event_bytes.proofs.store_event.Goals as goal
 
 pub overflow_add-ends-6 : goal.overflow_add-ends-6
 overflow_add-ends-6 c =
-    omega (arith, c.smaller-n.ensures, c.requires.preamble, c.requires.reactions)
+    omega (arith, c.min-n.ensures, c.requires.preamble, c.requires.reactions)
 
 pub returns : goal.returns
 returns c =
     let a = c.args in
-    stored_event a.version a.window a.preamble.now a.precursors.now a.energies.now a.coefficients.now a.out.now c.smaller-n.ensures c.store_bytes.ensures c.store_u32.ensures c.store_reactions.ensures c.store_u32-2.ensures c.store_u64.ensures c.store_u64-2.ensures c.store_u32-3.ensures c.store_u64s.ensures c.store_u64-3.ensures
+    stored_event a.version a.window a.preamble.now a.precursors.now a.energies.now a.coefficients.now a.out.now c.min-n.ensures c.store_bytes.ensures c.store_u32.ensures c.store_reactions.ensures c.store_u32-2.ensures c.store_u64.ensures c.store_u64-2.ensures c.store_u32-3.ensures c.store_u64s.ensures c.store_u64-3.ensures

@@ -20,8 +20,8 @@ loop-i-preserved c =
     let es = a.energies.now in
     let i = c.loop-i.i in
     storing_more (written reaction) 32 (zip ps es) a.out.now a.at reaction_size (omega arith) _ _ _ _ _ (0, 0) c.loop-i.invariant
-    (omega (arith, length-zip ps es, c.smaller-n.ensures))
-    (c.store_reaction.ensures ∙ rw (get_d_zip ps es i (omega (arith, c.smaller-n.ensures)) (omega (arith, c.smaller-n.ensures))))
+    (omega (arith, length-zip ps es, c.min-n.ensures))
+    (c.store_reaction.ensures ∙ rw (get_d_zip ps es i (omega (arith, c.min-n.ensures)) (omega (arith, c.min-n.ensures))))
     c.saturating_add-place.ensures
 
 pub shape_of-out : goal.shape_of-out
@@ -30,4 +30,4 @@ shape_of-out c = ap length c.loop-i.invariant.stored ∙ simp length-sets
 pub returns : goal.returns
 returns c =
     let a = c.args in
-    storing_all _ _ _ _ _ c.loop-i.invariant (omega (arith, length-zip a.precursors.now a.energies.now, c.smaller-n.ensures, c.loop-i-test.false))
+    storing_all _ _ _ _ _ c.loop-i.invariant (omega (arith, length-zip a.precursors.now a.energies.now, c.min-n.ensures, c.loop-i-test.false))

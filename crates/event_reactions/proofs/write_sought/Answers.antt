@@ -39,7 +39,7 @@ returns-then-has_uncounted c =
     let body = c.args.body.now in
     let none = sym c.write_kept-count.ensures.value ∙ c.if-count-eq0.true in
     let is = of_uncounted body c.if-body-lt8.false c.if-tribrid.false c.record_count-2.ensures none (sym c.has_uncounted.ensures ∙ c.if-has_uncounted.true) in
-    let rs = kept body 8 c.record_count-2.result in record { precursors_after = rw is (column_first (λ x. x.0) rs none (word_at body 4 8) _ c.write_kept-count.ensures.precursors_after c.copy_u64s.ensures.stands (rw is at c.requires.body_in_bounds)); energies_after = rw is (column_first (λ x. x.1) rs none (word_at body 20 8) _ c.write_kept-count.ensures.energies_after c.copy_u64s-then-has_uncounted.ensures.stands (rw is at c.requires.body_in_bounds_2)) }
+    let rs = kept body 8 c.record_count-2.result in record { precursors_after = rw is (column_first (λ x. x.0) rs none (word_at body 4 8) _ c.write_kept-count.ensures.precursors_after c.copy.ensures.stands (rw is at c.requires.body_in_bounds)); energies_after = rw is (column_first (λ x. x.1) rs none (word_at body 20 8) _ c.write_kept-count.ensures.energies_after c.copy-then-has_uncounted.ensures.stands (rw is at c.requires.body_in_bounds_2)) }
 
 pub returns-else-count-eq0 : goal.returns-else-count-eq0
 returns-else-count-eq0 c =

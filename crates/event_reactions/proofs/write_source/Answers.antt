@@ -16,7 +16,7 @@ write_sought-requires c =
 pub returns-in-Every : goal.returns-in-Every
 returns-in-Every c =
     let is = c.in-Every.is in
-    let a = c.args in record { precursors_after = rw is (every_precursor a.body.now _ _ _ _ c.copy_u64s.ensures.stands); energies_after = rw is (every_energy a.body.now _ _ _ _ (omega arith) c.saturating_add.ensures c.copy_u64s-in-Every.ensures.stands) }
+    let a = c.args in record { precursors_after = rw is (every_precursor a.body.now _ _ _ _ c.copy.ensures.stands); energies_after = rw is (every_energy a.body.now _ _ _ _ (omega arith) c.saturating_add.ensures c.copy-in-Every.ensures.stands) }
 
 pub returns-in-Sought : goal.returns-in-Sought
 unfolding in_source

@@ -4,4 +4,4 @@ use Rattle.event_writer.proofs.write_lists.Goals as goal
 
 pub returns : goal.returns
 returns c =
-    all_lists _ _ _ _ _ _ _ c.requires c.copy_bytes.ensures.stands c.write_reactions.ensures c.copy_u64s.ensures.stands
+    all_lists _ _ _ _ _ _ _ c.requires c.copy_bytes.ensures.stands c.write_reactions.ensures c.copy.ensures.stands

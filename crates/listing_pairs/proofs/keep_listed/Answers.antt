@@ -14,10 +14,10 @@ loop-i-init c = (keep_none _ _ _ _, omega arith)
 -- both slices have an i-th element
 module _ (c : In-loop-i) where
   in_masses : c.loop-i.i < length c.loop-i.mz
-  in_masses = omega (arith, c.loop-i-test.true, c.loop-i.invariant.0.same_masses, c.smaller-pairs.ensures)
+  in_masses = omega (arith, c.loop-i-test.true, c.loop-i.invariant.0.same_masses, c.min-pairs.ensures)
 
   in_intensities : c.loop-i.i < length c.loop-i.intensity
-  in_intensities = omega (arith, c.loop-i-test.true, c.loop-i.invariant.0.same_intensities, c.smaller-pairs.ensures)
+  in_intensities = omega (arith, c.loop-i-test.true, c.loop-i.invariant.0.same_intensities, c.min-pairs.ensures)
 
 pub bounds-mz-i : goal.bounds-mz-i
 bounds-mz-i c = in_masses (goal.at.bounds-mz-i c).In-loop-i
@@ -53,5 +53,5 @@ shape_of-intensity c = c.loop-i.invariant.0.same_intensities
 
 pub returns : goal.returns
 returns c =
-    let all = keep_all _ _ _ _ c.loop-i.invariant.0 (omega (arith, c.loop-i-test.false, c.loop-i.invariant.1, c.smaller-pairs.ensures)) in
+    let all = keep_all _ _ _ _ c.loop-i.invariant.0 (omega (arith, c.loop-i-test.false, c.loop-i.invariant.1, c.min-pairs.ensures)) in
     record { value = all.0; intensity_after = all.1 }

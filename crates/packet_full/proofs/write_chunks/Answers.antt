@@ -32,13 +32,13 @@ offset_bounds-signal-written c =
     let w = c.loop-i.invariant in
     omega (arith, fits w (omega (arith, c.loop-i-test.true)) c.u32_at-n.result c.u32_at-n.ensures, w.same)
 
-pub slice_bounds-copy_u32s-count : goal.slice_bounds-copy_u32s-count
-slice_bounds-copy_u32s-count c =
+pub slice_bounds-copy-count : goal.slice_bounds-copy-count
+slice_bounds-copy-count c =
     let w = c.loop-i.invariant in
     omega (arith, fits w (omega (arith, c.loop-i-test.true)) c.u32_at-n.result c.u32_at-n.ensures, w.same)
 
-pub slice_bounds-copy_u32s-start : goal.slice_bounds-copy_u32s-start
-slice_bounds-copy_u32s-start c =
+pub slice_bounds-copy-start : goal.slice_bounds-copy-start
+slice_bounds-copy-start c =
     let w = c.loop-i.invariant in
     omega (arith, fits w (omega (arith, c.loop-i-test.true)) c.u32_at-n.result c.u32_at-n.ensures, w.same)
 
@@ -59,7 +59,7 @@ overflow_add-at-in-loop-i-3 c =
 
 pub loop-i-preserved : goal.loop-i-preserved
 loop-i-preserved c =
-    turn_by c.loop-i.invariant (omega (arith, c.loop-i-test.true)) c.u32_at-n.result c.u32_at-n.ensures c.u32_at.ensures refl c.fudge_at.ensures c.head_size-head.ensures.value _ c.copy_u32s.ensures.stands refl
+    turn_by c.loop-i.invariant (omega (arith, c.loop-i-test.true)) c.u32_at-n.result c.u32_at-n.ensures c.u32_at.ensures refl c.fudge_at.ensures c.head_size-head.ensures.value _ c.copy.ensures.stands refl
 
 pub shape_of-bins : goal.shape_of-bins
 shape_of-bins c = c.loop-i.invariant.bins.same

@@ -15,5 +15,5 @@ returns-in_err-p c =
 pub returns : goal.returns
 returns c =
     left_same
-    (peaks_only _ _ _ _ _ (sym (ap outcome_of c.in_ok-p.was) ∙ c.skip_to_peaks.ensures) c.item_size.ensures.value)
-    c.write_peaks.ensures
+    (peaks_only _ _ _ _ (sym (ap outcome_of c.in_ok-p.was) ∙ c.skip_to_peaks.ensures))
+    (rw c.row.ensures at c.write_peaks.ensures)

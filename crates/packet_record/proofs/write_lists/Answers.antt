@@ -5,4 +5,4 @@ use Rattle.packet_record.proofs.write_lists.Goals as goal
 
 pub returns : goal.returns
 returns c =
-    all_written c.args.places _ _ _ _ _ c.requires (omega arith) c.item_size-stride.ensures.value c.saturating_add.ensures c.write_peaks.ensures c.copy_u32s.ensures.stands c.copy_u32s-2.ensures.stands
+    all_written c.args.places _ _ _ _ _ c.requires (omega arith) c.saturating_add.ensures (rw c.row.ensures at c.write_peaks.ensures) c.copy.ensures.stands c.copy-2.ensures.stands

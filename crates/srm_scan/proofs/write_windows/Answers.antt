@@ -8,8 +8,8 @@ pub returns-then-holds : goal.returns-then-holds
 returns-then-holds c =
     let room = sym (rw c.holds.ensures at c.holds-2.ensures) ∙ c.if-holds.true in
     pairs_written _ (length-windows _ _ _) _ _ room
-    (low_column _ _ _ _ _ c.copy_u32s.ensures.stands)
-    (high_column _ _ _ _ _ c.copy_u32s-then-holds.ensures.stands)
+    (low_column _ _ _ _ _ c.copy.ensures.stands)
+    (high_column _ _ _ _ _ c.copy-then-holds.ensures.stands)
 
 pub returns : goal.returns
 returns c =
