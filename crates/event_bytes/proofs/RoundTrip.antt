@@ -1,7 +1,7 @@
 -- L3: an event that was written reads back.
 use Rattle.std.specs.Prelude.{Result}
 use mathlib.Core.Path.{◌≡◌, refl, ap, sym, ◌∙◌}
-use Prim.Native.Nat.{ℕ, zero, suc, ◌+◌, ◌*◌, ◌-◌, ◌^◌, ◌≤◌, ◌<◌}
+use Prim.Native.Nat.{ℕ, zero, suc, ◌+◌, ◌*◌, ◌^◌, ◌≤◌, ◌<◌}
 use native.Mathlib.Omega.{arith}
 use mathlib.Core.Bool.{true}
 use mathlib.Core.List.{List, [], ◌∷◌, ◌++◌}
@@ -17,7 +17,7 @@ use Rattle.refusal.specs.declared.Refusal.{Refusal}
 use Rattle.lists.specs.Left.{fits, if_fits, lengths, lists_if_fit, LeftListBy, firsts, seconds}
 use Rattle.lists.proofs.Cases.{and_true, false_not_true}
 use Rattle.lists.proofs.Left.{fits_true, wrote}
-use Rattle.parser.specs.Parser.{parsed, parse, done, bytes}
+use Rattle.parser.specs.Parser.{parsed, parse, done}
 use Rattle.parser.specs.Call.{outcome}
 use Rattle.parser.proofs.Prefix.{parse_bind}
 use Rattle.layout.specs.Layout.{le_bytes, concat, word, written}

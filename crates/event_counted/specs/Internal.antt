@@ -1,9 +1,8 @@
 -- Answers of the private functions. No public promise cites it.
 use Rattle.std.specs.Prelude.{ℕ, ◌+◌, List}
-use Rattle.refusal.specs.Outcome.{Outcome, ok, on_ok}
+use Rattle.refusal.specs.Outcome.{Outcome, on_ok}
 use Rattle.parser.specs.Call.{outcome, single}
 use Rattle.event_record.specs.Places.{with_lists, places_of, preamble_and_body}
-use Rattle.event_record.specs.declared.Lists.{Lists}
 use Rattle.event_record.specs.declared.Places.{Places}
 use Rattle.event_counted.specs.Layout.{judge_body}
 

@@ -3,7 +3,6 @@ use mathlib.Core.Path.{◌≡◌}
 use Prim.Native.Nat.{◌^◌}
 use mathlib.Core.Bool.{true, ◌&&◌}
 use lib.Dec.{ltb, eqb}
-use borrow.Author.Rules.{rules}
 use Rattle.event_bytes.proofs.is_held.Goals as goal
 
 pub returns : goal.returns

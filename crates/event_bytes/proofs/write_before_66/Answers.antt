@@ -3,7 +3,6 @@ use mathlib.Core.Path.{sym, ◌∙◌}
 use Rattle.lists.proofs.Left.{left_refused, left_same}
 use Rattle.event_bytes.specs.Write.{write_before_66}
 use Rattle.event_bytes.proofs.Held.{small}
-use borrow.Author.Rules.{rules}
 use Rattle.event_bytes.proofs.write_before_66.Goals as goal
 
 pub write_held-requires : goal.write_held-requires

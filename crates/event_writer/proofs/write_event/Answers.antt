@@ -4,7 +4,6 @@ use Prim.Native.Nat.{◌^◌, ◌≤◌, ◌<◌}
 use mathlib.Core.Path.{◌∙◌}
 use lib.ListN.{length}
 use Rattle.event_writer.proofs.Parts.{part_ordered, part_within, after_saturated}
-use borrow.Author.Rules.{rules}
 use Rattle.event_writer.proofs.write_event.Goals as goal
 use Rattle.event_writer.proofs.write_event.Goals.{After-within-end}
 

@@ -5,7 +5,6 @@ use mathlib.Core.List.{[], ◌∷◌}
 use lib.ListN.{length}
 use Rattle.lists.specs.Left.{fits}
 use Rattle.event_writer.proofs.Writing.{no_room, holds_precursors, event_written}
-use borrow.Author.Rules.{rules}
 use Rattle.event_writer.proofs.write_if_fits.Goals as goal
 use Rattle.event_writer.proofs.write_if_fits.Goals.{Then-holds}
 

@@ -5,7 +5,6 @@ use native.Mathlib.Omega.{arith}
 use lib.Dec.{leb}
 use Rattle.scan_index.specs.Entry.{layout}
 use Rattle.scan_index.proofs.Size.{value_long}
-use Rattle.std.proofs.lemmas.Grind.{common_steps}
 use Rattle.scan_index.proofs.fields.Goals as goal
 
 pub returns : goal.returns
