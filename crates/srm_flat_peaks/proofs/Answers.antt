@@ -24,8 +24,9 @@ use Rattle.srm_flat_peaks.specs.Flat.{looks_valid, Attempt, accepted, passed_ove
 use Rattle.srm_flat_peaks.specs.Internal.{attempt_answer}
 use Rattle.srm_flat_peaks.proofs.Attempts.{parse_from}
 
-abbrev AttemptAnswer : Type 0
-AttemptAnswer = Result (Option (ℕ × ℕ)) Refusal
+-- what an attempt comes to: peaks at a place, none, or the refusal of a short run
+abbrev Attempted : Type 0
+Attempted = Result (Option (ℕ × ℕ)) Refusal
 
 -- ---- the two attempts
 module _ (end cum_end data_size : ℕ) (s : List ℕ) where
@@ -41,7 +42,7 @@ module _ (end cum_end data_size : ℕ) (s : List ℕ) where
       go false start n = refl
 
   -- the second, where the first was passed over
-  abbrev or_next : AttemptAnswer → AttemptAnswer → AttemptAnswer
+  abbrev or_next : Attempted → Attempted → Attempted
   or_next (Ok None) j = j
   or_next (Ok (Some found)) j = Ok (Some found)
   or_next (Err r) j = Err r
@@ -58,7 +59,7 @@ module _ (end cum_end data_size : ℕ) (s : List ℕ) where
       go (parsed passed_over next) = anywhere 2 at next
 
   -- of an attempt that decides, and of one that is passed over
-  pub by_both : (at : ℕ) (i j : AttemptAnswer) → i ≡ attempt_answer (parse (attempt end cum_end data_size 1) s at) → j ≡ attempt_answer (parse (attempt end cum_end data_size 2) s at)
+  pub by_both : (at : ℕ) (i j : Attempted) → i ≡ attempt_answer (parse (attempt end cum_end data_size 1) s at) → j ≡ attempt_answer (parse (attempt end cum_end data_size 2) s at)
       → or_next i j ≡ attempt_answer (parse (attempts end cum_end data_size) s at)
   by_both at i j e f = rw (e, f) (both at)
 
@@ -67,7 +68,7 @@ abbrev found_at : ℕ → List Peak → Outcome (ℕ × ℕ)
 found_at place peaks = ok (place, length peaks)
 
 -- what a call answers of an attempt
-abbrev pub outcome_of_attempt : AttemptAnswer → Outcome (ℕ × ℕ)
+abbrev pub outcome_of_attempt : Attempted → Outcome (ℕ × ℕ)
 outcome_of_attempt (Ok (Some found)) = ok found
 outcome_of_attempt (Ok None) = refused 2 []
 outcome_of_attempt (Err r) = outcome_of_refusal r
@@ -91,7 +92,7 @@ module _ (place cum_end data_size : ℕ) (s : List ℕ) (end : ℕ) (is : end �
   unfolding flat_peaks parse
   no_peaks t = rw (found_by, le-leb _ _ t)
 
-  pub by_attempts : 1 < data_size → (j : AttemptAnswer) → j ≡ attempt_answer (parse (attempts end cum_end data_size) s end) → outcome_of_attempt j ≡ find_flat_peaks place cum_end data_size s
+  pub by_attempts : 1 < data_size → (j : Attempted) → j ≡ attempt_answer (parse (attempts end cum_end data_size) s end) → outcome_of_attempt j ≡ find_flat_peaks place cum_end data_size s
   unfolding flat_peaks
   by_attempts t j e = rw (found_by, lt-leb _ _ t, e)
 
