@@ -22,7 +22,6 @@ use Rattle.text.specs.Text.{ascii}
 use Rattle.listing_lines.specs.Lines.{decimal, part_in, refused_line, tray_line, scan_lines}
 use Rattle.listing_lines.proofs.Fields.{first_field}
 use Rattle.tray_header.specs.Header.{read_tray_header}
-use Rattle.tray_header.specs.Header as header
 use Rattle.tray_header.specs.declared.TrayHeader.{TrayHeader}
 use Rattle.tray_header.proofs.Found.{Words}
 use Rattle.tray_header.proofs.LongerBytes.{tray_header_prefix, tray_header_completes}
@@ -108,9 +107,9 @@ module _ {A : Type 0} (k : ℕ) (text : Outcome A → List ℕ) (line : (n : ℕ
 
 -- ---- the text of a header that `read_tray_header` answered
 abbrev pub ReadsHeader : List ℕ → Result TrayHeader Refusal → Type 0
-ReadsHeader s x = header.outcome_of x ≡ read_tray_header s
+ReadsHeader s x = outcome_of x ≡ read_tray_header s
 
-header_outcome : (x : Result TrayHeader Refusal) (o : Outcome TrayHeader) → header.outcome_of x ≡ o → OneAnswer o
+header_outcome : (x : Result TrayHeader Refusal) (o : Outcome TrayHeader) → outcome_of x ≡ o → OneAnswer o
 header_outcome x (ok h) e = tt
 header_outcome (Ok h) (refused n carries) e = ok_not_refused e
 header_outcome (Err r) (refused n carries) e = (r, (cc), (cc))
@@ -120,13 +119,13 @@ unfolding tray_line
 header_value h part e = let n : ◌≡◌ {A = ℕ} 84 88 = cc in omega arith
 
 pub list_header_stays : (s t xs ys zs : List ℕ) (x y : Result TrayHeader Refusal) (r q : Result ℕ Refusal) → ReadsHeader s x → ReadsHeader (s ++ t) y
-    → LeftList (header_text (header.outcome_of x)) xs r ys → LeftList (header_text (header.outcome_of y)) xs q zs
-    → ((part : ℕ) → header_text (header.outcome_of x) ≡ refused_line 0 1 (part ∷ []) → ⊥) → (q ≡ r) × (zs ≡ ys)
+    → LeftList (header_text (outcome_of x)) xs r ys → LeftList (header_text (outcome_of y)) xs q zs
+    → ((part : ℕ) → header_text (outcome_of x) ≡ refused_line 0 1 (part ∷ []) → ⊥) → (q ≡ r) × (zs ≡ ys)
 list_header_stays s t xs ys zs x y r q d e l m never =
     text_stays 0 header_text (λ _ _. refl) header_value read_tray_header tray_header_prefix s t xs ys zs r q (rw (← d) l) (rw (← e) m) (λ part h. never part (ap header_text d ∙ h))
 
-pub list_header_completes : (s : List ℕ) (x : Result TrayHeader Refusal) → Bytes s → length s < 2 ^ 62 → ReadsHeader s x → header_text (header.outcome_of x) ≡ ran_out_line 0 Header
-    → (t : List ℕ) × Held (s ++ t) × ((y : Result TrayHeader Refusal) → ReadsHeader (s ++ t) y → header_text (header.outcome_of y) ≡ ran_out_line 0 Header → ⊥)
+pub list_header_completes : (s : List ℕ) (x : Result TrayHeader Refusal) → Bytes s → length s < 2 ^ 62 → ReadsHeader s x → header_text (outcome_of x) ≡ ran_out_line 0 Header
+    → (t : List ℕ) × Held (s ++ t) × ((y : Result TrayHeader Refusal) → ReadsHeader (s ++ t) y → header_text (outcome_of y) ≡ ran_out_line 0 Header → ⊥)
 list_header_completes s x is_bytes few e h =
     let w = text_completes 0 header_text (λ _ _. refl) header_value read_tray_header Header s (tray_header_completes s is_bytes few (lit< tt)) (header_outcome x _ e) (ap header_text (sym e) ∙ h) in
     (w.0, w.1, λ y f i. w.2 (header_outcome y _ f) (ap header_text (sym f) ∙ i))
