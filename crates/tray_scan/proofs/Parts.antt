@@ -20,6 +20,7 @@ use Rattle.scan_index.specs.declared.ScanIndexEntry.{ScanIndexEntry}
 use Rattle.scan_index.proofs.Size.{entry_least, entry_sized}
 use Rattle.event_record.specs.Event.{Event}
 use Rattle.event_record.specs.Places.{find_by}
+use Rattle.event_record.specs.declared.Places.{Places}
 use Rattle.events.specs.Event.{layout, event_end}
 use Rattle.events.proofs.Ends.{found_event}
 use Rattle.tray_header.specs.declared.TrayHeader.{TrayHeader}

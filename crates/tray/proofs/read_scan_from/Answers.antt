@@ -14,11 +14,11 @@ use Rattle.tray.proofs.read_scan_from.Goals.{In_ok-h}
 header : (c : In_ok-h) → ok c.in_ok-h.h ≡ header_with 4096 6 c.args.k c.args.tray.now
 header c = sym (ap outcome_of c.in_ok-h.was) ∙ c.header_with.ensures
 
-pub slice_bounds-scan_at-count : goal.slice_bounds-scan_at-count
-slice_bounds-scan_at-count c = omega (arith, with_size 4096 6 _ _ (header (goal.at.slice_bounds-scan_at-count c).In_ok-h))
+pub slice_bounds-run-count : goal.slice_bounds-run-count
+slice_bounds-run-count c = omega (arith, with_size 4096 6 _ _ (header (goal.at.slice_bounds-run-count c).In_ok-h))
 
-pub slice_bounds-scan_at-start : goal.slice_bounds-scan_at-start
-slice_bounds-scan_at-start c = omega (arith, with_size 4096 6 _ _ (header (goal.at.slice_bounds-scan_at-start c).In_ok-h))
+pub slice_bounds-run-start : goal.slice_bounds-run-start
+slice_bounds-run-start c = omega (arith, with_size 4096 6 _ _ (header (goal.at.slice_bounds-run-start c).In_ok-h))
 
 pub returns-in_err-h : goal.returns-in_err-h
 returns-in_err-h c =
