@@ -1,278 +1,150 @@
 // Answers the requests on noise and labels: the crates `float_narrow`, `noise` and `packet_noise`.
 #![tactic(auto)]
 
-ghost use Rattle.std.specs.Prelude.{◌≤◌, length};
-ghost use Rattle.probe_text.specs.Held.{held};
-
+use float_bits::{bits_of_f32, f64_of_bits};
 use float_narrow::narrowed;
 use noise::{label_peaks, noise_at};
-use packet_labels::Labels;
 use packet_noise::label_packet_peaks;
 use packet_record::ScanDataPacket;
 use packet_skipping::read_skip_profile;
-use probe_text::request::{LENT, Lengths, U64};
-use probe_text::{Answered, answer, lent, request};
+use probe_text::fields::LENT;
+use probe_text::{Answer, Fields, ProbeError};
 use refusal::Refusal;
 
-fn narrow(rest: &[u8], out: &mut [u8], n: usize) -> usize
-    ensures { result ≤ length out.new }
-{
-    let field = request::number(rest, 0, U64);
-    if field.end != rest.len() {
-        return answer::bad(out, n);
-    }
-    let n = answer::ok(out, n);
-    answer::float32(out, n, narrowed(float_bits::f64_of_bits(field.value)))
+// No request holds a packet of more peaks.
+const PEAKS: usize = 4096;
+
+fn narrow(fields: &mut Fields, answer: &mut Answer) -> Result<(), ProbeError> {
+    let bits = fields.number()?;
+    fields.end()?;
+    answer.ok()?;
+    answer.bits(bits_of_f32(narrowed(f64_of_bits(bits))))
 }
 
-fn put_noise(out: &mut [u8], n: usize, answer: Option<(u32, u32)>) -> usize
-    ensures { result ≤ length out.new }
-{
-    match answer {
-        None => answer::none(out, n),
+fn put_noise(answer: &mut Answer, noise: Option<(u32, u32)>) -> Result<(), ProbeError> {
+    match noise {
         Some((noise, baseline)) => {
-            let n = answer::ok(out, n);
-            let n = answer::bits32(out, n, noise);
-            answer::bits32(out, n, baseline)
+            answer.ok()?;
+            answer.bits(noise)?;
+            answer.bits(baseline)
         }
+        None => answer.none(),
     }
 }
 
-fn noise(rest: &[u8], data: &mut [u8], out: &mut [u8], n: usize) -> usize
-    ensures { result ≤ length out.new }
-{
-    let mz = request::number(rest, 0, U64);
-    let count = request::bytes(rest, mz.end, data);
-    if count.end != rest.len() {
-        return answer::bad(out, n);
+fn noise(fields: &mut Fields, answer: &mut Answer) -> Result<(), ProbeError> {
+    let mz = f64_of_bits(fields.number()?);
+    let nodes = fields.bytes()?;
+    fields.end()?;
+    put_noise(answer, noise_at(mz, &nodes))
+}
+
+// The slices that are lent for labels.
+#[derive(Drop)]
+struct LabelSlices {
+    flags: Vec<u8>,
+    noise: Vec<u32>,
+    baseline: Vec<u32>,
+}
+
+impl LabelSlices {
+    // The fields F, N and B.
+    fn lent(fields: &mut Fields) -> Result<LabelSlices, ProbeError> {
+        Ok(LabelSlices {
+            flags: fields.lent(LENT)?,
+            noise: fields.lent(LENT)?,
+            baseline: fields.lent(LENT)?,
+        })
     }
-    let nodes = request::front(data, count.value);
-    put_noise(out, n, noise_at(float_bits::f64_of_bits(mz.value), nodes))
-}
 
-fn put_slices(out: &mut [u8], n: usize, flags: &[u8], noises: &[u32], baselines: &[u32]) -> usize
-    ensures { result ≤ length out.new }
-{
-    let n = answer::slice8(out, n, flags);
-    let n = answer::slice32(out, n, noises);
-    answer::slice32(out, n, baselines)
-}
-
-// A label for each mass, and the slices that are lent for them.
-fn put_labels(
-    masses: &[u64],
-    nodes: &[u8],
-    flags: &mut [u8],
-    noises: &mut [u32],
-    baselines: &mut [u32],
-    out: &mut [u8],
-    n: usize,
-) -> usize
-    ensures { result ≤ length out.new }
-{
-    let answer = label_peaks(masses, nodes, flags, noises, baselines);
-    let n = answer::count(out, n, answer);
-    put_slices(out, n, flags, noises, baselines)
-}
-
-fn lend_labels(
-    masses: &[u64],
-    nodes: &[u8],
-    f: usize,
-    lent: Lengths,
-    out: &mut [u8],
-    n: usize,
-) -> usize
-    requires { (f ≤ 64) × (lent.first ≤ 64) × (lent.second ≤ 64) }
-    ensures { result ≤ length out.new }
-{
-    let mut flags = lent::u8s();
-    let mut noises = lent::u32s();
-    let mut baselines = lent::u32s();
-    let m = lent.first;
-    let b = lent.second;
-    put_labels(
-        masses,
-        nodes,
-        &mut flags[0..f],
-        &mut noises[0..m],
-        &mut baselines[0..b],
-        out,
-        n,
-    )
-}
-
-fn labels(rest: &[u8], data: &mut [u8], out: &mut [u8], n: usize) -> usize
-    ensures { result ≤ length out.new }
-{
-    let mut masses = [0u64; 64];
-    let list = request::u64s(rest, 0, data, &mut masses);
-    let f = request::number(rest, list.end, LENT);
-    let lent = request::lent_lengths(rest, f.end);
-    let count = request::bytes(rest, lent.end, data);
-    if count.end != rest.len() {
-        return answer::bad(out, n);
-    }
-    let nodes = request::front(data, count.value);
-    let k = list.value as usize;
-    let f = f.value as usize;
-    lend_labels(&masses[0..k], nodes, f, lent, out, n)
-}
-
-fn put_packet_noise(out: &mut [u8], n: usize, run: &[u8], packet: Result<ScanDataPacket, Refusal>, mz: f64) -> usize
-    ensures { result ≤ length out.new }
-{
-    match packet {
-        Err(refusal) => answer::refused(out, n, refusal),
-        Ok(p) => put_noise(out, n, packet_noise::noise_at(run, p, mz)),
+    fn put(&self, answer: &mut Answer) -> Result<(), ProbeError> {
+        answer.slice(&self.flags)?;
+        answer.slice(&self.noise)?;
+        answer.slice(&self.baseline)
     }
 }
 
-fn packet_noise(rest: &[u8], data: &mut [u8], out: &mut [u8], n: usize) -> usize
-    ensures { result ≤ length out.new }
-{
-    let mz = request::number(rest, 0, U64);
-    let place = request::number(rest, mz.end, U64);
-    let count = request::bytes(rest, place.end, data);
-    if count.end != rest.len() {
-        return answer::bad(out, n);
-    }
-    let run = request::front(data, count.value);
-    // No request holds more peaks or descriptors than these.
-    let mut masses = [0u64; 4096];
-    let mut abundances = [0u32; 4096];
-    let mut descriptors = [0u32; 4096];
-    let mut resolutions = [0u32; 4096];
-    let packet = read_skip_profile(
-        run,
-        place.value,
-        &mut masses,
-        &mut abundances,
-        &mut descriptors,
-        &mut resolutions,
+fn labels(fields: &mut Fields, answer: &mut Answer) -> Result<(), ProbeError> {
+    let mz = fields.u64s()?;
+    let mut lent = LabelSlices::lent(fields)?;
+    let nodes = fields.bytes()?;
+    fields.end()?;
+    let count = label_peaks(
+        &mz,
+        &nodes,
+        &mut lent.flags,
+        &mut lent.noise,
+        &mut lent.baseline,
     );
-    put_packet_noise(out, n, run, packet, float_bits::f64_of_bits(mz.value))
+    answer.count(count)?;
+    lent.put(answer)
 }
 
-// Labels for the peaks of a packet, whose masses stand at the front of a slice.
-fn label(
-    run: &[u8],
-    packet: Result<ScanDataPacket, Refusal>,
-    masses: &[u64],
-    flags: &mut [u8],
-    noises: &mut [u32],
-    baselines: &mut [u32],
-) -> Result<u64, Refusal>
-    requires { 64 ≤ length masses.now }
-{
-    match packet {
-        Err(refusal) => Err(refusal),
-        Ok(p) => {
-            // No packet with more of them was read.
-            let k = (p.peaks % 65) as usize;
-            label_packet_peaks(run, p, &masses[0..k], flags, noises, baselines)
-        }
-    }
-}
-
-// The packet at a place, the labels of its peaks, and the slices that are lent for them. It has at most 64 peaks: more are
-// more than can be lent for labels, and refusal 8 too.
-fn put_packet_labels(
+// The packet at a place, and the masses of its peaks.
+fn packet_at(
     run: &[u8],
     place: u64,
-    flags: &mut [u8],
-    noises: &mut [u32],
-    baselines: &mut [u32],
-    out: &mut [u8],
-    n: usize,
-) -> usize
-    ensures { result ≤ length out.new }
-{
-    let mut masses = [0u64; 64];
-    let mut abundances = [0u32; 64];
-    let mut descriptors = [0u32; 64];
-    let mut resolutions = [0u32; 64];
-    let packet = read_skip_profile(
+    mz: &mut [u64; PEAKS],
+) -> Result<ScanDataPacket, Refusal> {
+    read_skip_profile(
         run,
         place,
-        &mut masses,
-        &mut abundances,
-        &mut descriptors,
-        &mut resolutions,
-    );
-    let answer = label(run, packet, &masses, flags, noises, baselines);
-    let n = answer::count(out, n, answer);
-    put_slices(out, n, flags, noises, baselines)
-}
-
-fn packet_labels(rest: &[u8], data: &mut [u8], out: &mut [u8], n: usize) -> usize
-    ensures { result ≤ length out.new }
-{
-    let place = request::number(rest, 0, U64);
-    let f = request::number(rest, place.end, LENT);
-    let lent = request::lent_lengths(rest, f.end);
-    let count = request::bytes(rest, lent.end, data);
-    if count.end != rest.len() {
-        return answer::bad(out, n);
-    }
-    let run = request::front(data, count.value);
-    let mut flags = lent::u8s();
-    let mut noises = lent::u32s();
-    let mut baselines = lent::u32s();
-    let f = f.value as usize;
-    let m = lent.first;
-    let b = lent.second;
-    put_packet_labels(
-        run,
-        place.value,
-        &mut flags[0..f],
-        &mut noises[0..m],
-        &mut baselines[0..b],
-        out,
-        n,
+        mz,
+        &mut [0u32; PEAKS],
+        &mut [0u32; PEAKS],
+        &mut [0u32; PEAKS],
     )
 }
 
-// The request words that are answered here.
-#[derive(Clone, Copy)]
-enum Keyword {
-    Narrow,
-    Noise,
-    Labels,
-    PacketNoise,
-    PacketLabels,
-    Unknown,
+fn packet_noise(fields: &mut Fields, answer: &mut Answer) -> Result<(), ProbeError> {
+    let mz = f64_of_bits(fields.number()?);
+    let place = fields.number()?;
+    let run = fields.bytes()?;
+    fields.end()?;
+    match packet_at(&run, place, &mut [0u64; PEAKS]) {
+        Ok(packet) => put_noise(answer, packet_noise::noise_at(&run, packet, mz)),
+        Err(refusal) => answer.refused(refusal),
+    }
 }
 
-fn keyword_of(word: &[u8]) -> Keyword {
-    if check::same(word, b"narrow") {
-        return Keyword::Narrow;
-    }
-    if check::same(word, b"noise") {
-        return Keyword::Noise;
-    }
-    if check::same(word, b"labels") {
-        return Keyword::Labels;
-    }
-    if check::same(word, b"packet_noise") {
-        return Keyword::PacketNoise;
-    }
-    if check::same(word, b"packet_labels") {
-        return Keyword::PacketLabels;
-    }
-    Keyword::Unknown
+// Labels for the peaks of the packet at a place.
+fn label_packet(run: &[u8], place: u64, lent: &mut LabelSlices) -> Result<u64, Refusal> {
+    let mut mz = [0u64; PEAKS];
+    let packet = packet_at(run, place, &mut mz)?;
+    let peaks = (packet.peaks as usize).min(PEAKS);
+    label_packet_peaks(
+        run,
+        packet,
+        &mz[..peaks],
+        &mut lent.flags,
+        &mut lent.noise,
+        &mut lent.baseline,
+    )
 }
 
-// Answers a request by its word and the rest of its line.
-pub fn answer(word: &[u8], rest: &[u8], data: &mut [u8], out: &mut [u8], n: usize) -> Answered
-    ensures { held result ≤ length out.new }
-{
-    match keyword_of(word) {
-        Keyword::Narrow => Answered::Text(narrow(rest, out, n)),
-        Keyword::Noise => Answered::Text(noise(rest, data, out, n)),
-        Keyword::Labels => Answered::Text(labels(rest, data, out, n)),
-        Keyword::PacketNoise => Answered::Text(packet_noise(rest, data, out, n)),
-        Keyword::PacketLabels => Answered::Text(packet_labels(rest, data, out, n)),
-        Keyword::Unknown => Answered::Unknown,
+fn packet_labels(fields: &mut Fields, answer: &mut Answer) -> Result<(), ProbeError> {
+    let place = fields.number()?;
+    let mut lent = LabelSlices::lent(fields)?;
+    let run = fields.bytes()?;
+    fields.end()?;
+    let count = label_packet(&run, place, &mut lent);
+    answer.count(count)?;
+    lent.put(answer)
+}
+
+// Answers a request by its word and the fields after that: whether the word is one of these.
+pub fn try_answer(
+    word: &str,
+    fields: &mut Fields,
+    answer: &mut Answer,
+) -> Result<bool, ProbeError> {
+    match word {
+        "narrow" => narrow(fields, answer)?,
+        "noise" => noise(fields, answer)?,
+        "labels" => labels(fields, answer)?,
+        "packet_noise" => packet_noise(fields, answer)?,
+        "packet_labels" => packet_labels(fields, answer)?,
+        _ => return Ok(false),
     }
+    Ok(true)
 }

@@ -2,234 +2,132 @@
 // `srm_flat_peaks` and `srm_scan`.
 #![tactic(auto)]
 
-ghost use Rattle.std.specs.Prelude.{◌≤◌, length};
-ghost use Rattle.probe_text.specs.Held.{held};
-
 use packet_peak_list::read_peaks_only;
-use probe_text::request::{U32, U64};
-use probe_text::{Answered, answer, lent, request};
+use probe_text::fields::LENT;
+use probe_text::{Answer, Fields, ProbeError};
 use refusal::Refusal;
 use srm_flat_peaks::{find_flat_peaks, read_flat_peaks};
 use srm_scan::{find_srm_peaks, read_scan_srm_v66, read_scan_srm_v66_windows};
 
-// Which function reads the peaks, and what it is given beside the run.
-#[derive(Clone, Copy)]
-enum Reading {
-    Packet(u64),
-    Flat { data: u64, offset: u64, size: u32 },
-    Srm { data: u64, offset: u64 },
+// The slices that are lent for peaks.
+#[derive(Drop)]
+struct PeakSlices {
+    mz: Vec<u64>,
+    abundance: Vec<u32>,
 }
 
-// The fields DATA and OFFSET, and where they end.
-#[derive(Clone, Copy)]
-struct DataAndOffset {
-    data: u64,
-    offset: u64,
-    end: usize,
-}
+impl PeakSlices {
+    // The fields M and A.
+    fn lent(fields: &mut Fields) -> Result<PeakSlices, ProbeError> {
+        Ok(PeakSlices {
+            mz: fields.lent(LENT)?,
+            abundance: fields.lent(LENT)?,
+        })
+    }
 
-fn data_and_offset(rest: &[u8]) -> DataAndOffset {
-    let data = request::number(rest, 0, U64);
-    let offset = request::number(rest, data.end, U64);
-    DataAndOffset {
-        data: data.value,
-        offset: offset.value,
-        end: offset.end,
+    fn put(&self, answer: &mut Answer) -> Result<(), ProbeError> {
+        answer.slice(&self.mz)?;
+        answer.slice(&self.abundance)
     }
 }
 
-fn read(reading: Reading, run: &[u8], masses: &mut [u64], abundances: &mut [u32]) -> CountAnswer {
-    match reading {
-        Reading::Packet(place) => read_peaks_only(run, place, masses, abundances),
-        Reading::Flat { data, offset, size } => {
-            read_flat_peaks(run, data, offset, size, masses, abundances)
-        }
-        Reading::Srm { data, offset } => read_scan_srm_v66(run, data, offset, masses, abundances),
-    }
+fn peaks(fields: &mut Fields, answer: &mut Answer) -> Result<(), ProbeError> {
+    let place = fields.number()?;
+    let mut lent = PeakSlices::lent(fields)?;
+    let run = fields.bytes()?;
+    fields.end()?;
+    let count = read_peaks_only(&run, place, &mut lent.mz, &mut lent.abundance);
+    answer.count(count)?;
+    lent.put(answer)
 }
 
-// The peaks, and the slices that are lent for them.
-fn put_peaks(
-    reading: Reading,
-    run: &[u8],
-    masses: &mut [u64],
-    abundances: &mut [u32],
-    out: &mut [u8],
-    n: usize,
-) -> usize
-    ensures { result ≤ length out.new }
-{
-    let answer = read(reading, run, masses, abundances);
-    let n = answer::count(out, n, answer);
-    let n = answer::slice64(out, n, masses);
-    answer::slice32(out, n, abundances)
+fn flat(fields: &mut Fields, answer: &mut Answer) -> Result<(), ProbeError> {
+    let data = fields.number()?;
+    let offset = fields.number()?;
+    let size = fields.number()?;
+    let mut lent = PeakSlices::lent(fields)?;
+    let run = fields.bytes()?;
+    fields.end()?;
+    let count = read_flat_peaks(
+        &run,
+        data,
+        offset,
+        size,
+        &mut lent.mz,
+        &mut lent.abundance,
+    );
+    answer.count(count)?;
+    lent.put(answer)
 }
 
-// The fields from M on, and the answer by one of the functions.
-fn peaks_by(by: Reading, rest: &[u8], at: usize, data: &mut [u8], out: &mut [u8], n: usize) -> usize
-    ensures { result ≤ length out.new }
-{
-    let lent = request::lent_lengths(rest, at);
-    let count = request::bytes(rest, lent.end, data);
-    if count.end != rest.len() {
-        return answer::bad(out, n);
-    }
-    let run = request::front(data, count.value);
-    let mut masses = lent::u64s();
-    let mut abundances = lent::u32s();
-    let m = lent.first;
-    let a = lent.second;
-    put_peaks(by, run, &mut masses[0..m], &mut abundances[0..a], out, n)
+fn srm(fields: &mut Fields, answer: &mut Answer) -> Result<(), ProbeError> {
+    let data = fields.number()?;
+    let offset = fields.number()?;
+    let mut lent = PeakSlices::lent(fields)?;
+    let run = fields.bytes()?;
+    fields.end()?;
+    let count = read_scan_srm_v66(&run, data, offset, &mut lent.mz, &mut lent.abundance);
+    answer.count(count)?;
+    lent.put(answer)
 }
 
-fn peaks(rest: &[u8], data: &mut [u8], out: &mut [u8], n: usize) -> usize
-    ensures { result ≤ length out.new }
-{
-    let place = request::number(rest, 0, U64);
-    peaks_by(Reading::Packet(place.value), rest, place.end, data, out, n)
+fn srm_windows(fields: &mut Fields, answer: &mut Answer) -> Result<(), ProbeError> {
+    let data = fields.number()?;
+    let offset = fields.number()?;
+    let mut low = fields.lent::<u32>(LENT)?;
+    let mut high = fields.lent::<u32>(LENT)?;
+    let run = fields.bytes()?;
+    fields.end()?;
+    let count = read_scan_srm_v66_windows(&run, data, offset, &mut low, &mut high);
+    answer.count(count)?;
+    answer.slice(&low)?;
+    answer.slice(&high)
 }
 
-fn flat(rest: &[u8], data: &mut [u8], out: &mut [u8], n: usize) -> usize
-    ensures { result ≤ length out.new }
-{
-    let start = data_and_offset(rest);
-    let size = request::number(rest, start.end, U32);
-    let reading = Reading::Flat {
-        data: start.data,
-        offset: start.offset,
-        size: size.value as u32,
-    };
-    peaks_by(reading, rest, size.end, data, out, n)
-}
-
-fn srm(rest: &[u8], data: &mut [u8], out: &mut [u8], n: usize) -> usize
-    ensures { result ≤ length out.new }
-{
-    let start = data_and_offset(rest);
-    let reading = Reading::Srm {
-        data: start.data,
-        offset: start.offset,
-    };
-    peaks_by(reading, rest, start.end, data, out, n)
-}
-
-// The windows of a record, and the slices that are lent for them.
-fn put_windows(
-    run: &[u8],
-    start: DataAndOffset,
-    lows: &mut [u32],
-    highs: &mut [u32],
-    out: &mut [u8],
-    n: usize,
-) -> usize
-    ensures { result ≤ length out.new }
-{
-    let answer = read_scan_srm_v66_windows(run, start.data, start.offset, lows, highs);
-    let n = answer::count(out, n, answer);
-    let n = answer::slice32(out, n, lows);
-    answer::slice32(out, n, highs)
-}
-
-fn srm_windows(rest: &[u8], data: &mut [u8], out: &mut [u8], n: usize) -> usize
-    ensures { result ≤ length out.new }
-{
-    let start = data_and_offset(rest);
-    let lent = request::lent_lengths(rest, start.end);
-    let count = request::bytes(rest, lent.end, data);
-    if count.end != rest.len() {
-        return answer::bad(out, n);
-    }
-    let run = request::front(data, count.value);
-    let mut lows = lent::u32s();
-    let mut highs = lent::u32s();
-    let l = lent.first;
-    let h = lent.second;
-    put_windows(run, start, &mut lows[0..l], &mut highs[0..h], out, n)
-}
-
-fn put_place(out: &mut [u8], n: usize, found: Result<(u64, u64), Refusal>) -> usize
-    ensures { result ≤ length out.new }
-{
+fn put_found(
+    answer: &mut Answer,
+    found: Result<(u64, u64), Refusal>,
+) -> Result<(), ProbeError> {
     match found {
-        Err(refusal) => answer::refused(out, n, refusal),
         Ok((place, count)) => {
-            let n = answer::ok_number(out, n, place);
-            answer::number(out, n, count)
+            answer.ok_number(place)?;
+            answer.number(count)
         }
+        Err(refusal) => answer.refused(refusal),
     }
 }
 
-fn find_flat(rest: &[u8], data: &mut [u8], out: &mut [u8], n: usize) -> usize
-    ensures { result ≤ length out.new }
-{
-    let start = data_and_offset(rest);
-    let size = request::number(rest, start.end, U32);
-    let count = request::bytes(rest, size.end, data);
-    if count.end != rest.len() {
-        return answer::bad(out, n);
-    }
-    let run = request::front(data, count.value);
-    let size = size.value as u32;
-    put_place(out, n, find_flat_peaks(run, start.data, start.offset, size))
+fn find_flat(fields: &mut Fields, answer: &mut Answer) -> Result<(), ProbeError> {
+    let data = fields.number()?;
+    let offset = fields.number()?;
+    let size = fields.number()?;
+    let run = fields.bytes()?;
+    fields.end()?;
+    put_found(answer, find_flat_peaks(&run, data, offset, size))
 }
 
-fn find_srm(rest: &[u8], data: &mut [u8], out: &mut [u8], n: usize) -> usize
-    ensures { result ≤ length out.new }
-{
-    let start = data_and_offset(rest);
-    let count = request::bytes(rest, start.end, data);
-    if count.end != rest.len() {
-        return answer::bad(out, n);
-    }
-    let run = request::front(data, count.value);
-    put_place(out, n, find_srm_peaks(run, start.data, start.offset))
+fn find_srm(fields: &mut Fields, answer: &mut Answer) -> Result<(), ProbeError> {
+    let data = fields.number()?;
+    let offset = fields.number()?;
+    let run = fields.bytes()?;
+    fields.end()?;
+    put_found(answer, find_srm_peaks(&run, data, offset))
 }
 
-// The request words that are answered here.
-#[derive(Clone, Copy)]
-enum Keyword {
-    Peaks,
-    Flat,
-    Srm,
-    SrmWindows,
-    FindFlat,
-    FindSrm,
-    Unknown,
-}
-
-fn keyword_of(word: &[u8]) -> Keyword {
-    if check::same(word, b"peaks") {
-        return Keyword::Peaks;
+// Answers a request by its word and the fields after that: whether the word is one of these.
+pub fn try_answer(
+    word: &str,
+    fields: &mut Fields,
+    answer: &mut Answer,
+) -> Result<bool, ProbeError> {
+    match word {
+        "peaks" => peaks(fields, answer)?,
+        "flat" => flat(fields, answer)?,
+        "srm" => srm(fields, answer)?,
+        "srm_windows" => srm_windows(fields, answer)?,
+        "find_flat" => find_flat(fields, answer)?,
+        "find_srm" => find_srm(fields, answer)?,
+        _ => return Ok(false),
     }
-    if check::same(word, b"flat") {
-        return Keyword::Flat;
-    }
-    if check::same(word, b"srm") {
-        return Keyword::Srm;
-    }
-    if check::same(word, b"srm_windows") {
-        return Keyword::SrmWindows;
-    }
-    if check::same(word, b"find_flat") {
-        return Keyword::FindFlat;
-    }
-    if check::same(word, b"find_srm") {
-        return Keyword::FindSrm;
-    }
-    Keyword::Unknown
-}
-
-// Answers a request by its word and the rest of its line.
-pub fn answer(word: &[u8], rest: &[u8], data: &mut [u8], out: &mut [u8], n: usize) -> Answered
-    ensures { held result ≤ length out.new }
-{
-    match keyword_of(word) {
-        Keyword::Peaks => Answered::Text(peaks(rest, data, out, n)),
-        Keyword::Flat => Answered::Text(flat(rest, data, out, n)),
-        Keyword::Srm => Answered::Text(srm(rest, data, out, n)),
-        Keyword::SrmWindows => Answered::Text(srm_windows(rest, data, out, n)),
-        Keyword::FindFlat => Answered::Text(find_flat(rest, data, out, n)),
-        Keyword::FindSrm => Answered::Text(find_srm(rest, data, out, n)),
-        Keyword::Unknown => Answered::Unknown,
-    }
+    Ok(true)
 }
