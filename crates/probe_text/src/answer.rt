@@ -47,6 +47,14 @@ impl Answer {
         Ok(self.text.push_str(text)?)
     }
 
+    // A number with no space before it.
+    pub fn put_number<N: Into<u64> + Drop>(&mut self, value: N) -> Result<(), ProbeError>
+        ensures { OnOk result ((n : ℕ) × N.converts value n × (self.new ≡ self.old ++ decimal n)) }
+    {
+        let value: u64 = value.into();
+        Ok(write!(self.text, "{value}")?)
+    }
+
     // What is no request.
     pub fn malformed(&mut self) -> Result<(), ProbeError>
         ensures { OnOk result (self.new ≡ self.old ++ codes "?") }
