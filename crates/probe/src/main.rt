@@ -2,18 +2,17 @@
 // The program in reference/ prints the same.
 #![tactic(auto)]
 
+mod lines;
 mod serve;
 mod words;
 
 use std::io;
-use std::io::{BufWriter, Write};
+use std::io::{BufReader, BufWriter, Input, Write};
 
 fn main(rt: HostRuntime) -> io::Result<()> {
     let alloc = rt.alloc();
-    let mut input = [0u8; 131072];
-    let mut data = [0u8; 32768];
-    let mut out = vec![in alloc; 0u8; 65536]?;
+    let mut from = BufReader::new(alloc, rt.reader())?;
     let mut to = BufWriter::new(alloc, io::writer(&rt))?;
-    serve::serve(&mut rt.reader(), &mut to, &mut input, &mut data, &mut out)?;
+    serve::serve(alloc, &mut from, &mut to)?;
     to.flush()
 }

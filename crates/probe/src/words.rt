@@ -1,21 +1,25 @@
 // The request words.
-use probe_text::{Answered, answer, request};
+use crate::lines::LONGEST;
+use probe_text::{Answer, Fields, ProbeError};
+use std::alloc::Global;
 
-pub(crate) fn answer_request(line: &[u8], data: &mut [u8], out: &mut [u8], n: usize) -> usize {
-    let end = request::find(line, b' ');
-    of_requests(&line[0..end], &line[end..], data, out, n)
-}
-
-fn of_requests(word: &[u8], rest: &[u8], data: &mut [u8], out: &mut [u8], n: usize) -> usize {
-    match probe_requests::answer(word, rest, data, out, n) {
-        Answered::Text(n) => n,
-        Answered::Unknown => of_trays(word, rest, data, out, n),
+pub(crate) fn answer_request(
+    alloc: Global,
+    line: &[u8],
+    answer: &mut Answer,
+) -> Result<(), ProbeError> {
+    if LONGEST < line.len() {
+        return Err(ProbeError::Malformed);
     }
-}
-
-fn of_trays(word: &[u8], rest: &[u8], data: &mut [u8], out: &mut [u8], n: usize) -> usize {
-    match probe_trays::answer(word, rest, data, out, n) {
-        Answered::Text(n) => n,
-        Answered::Unknown => answer::bad(out, n),
+    let Ok(line) = str::from_utf8(line) else {
+        return Err(ProbeError::Malformed);
+    };
+    let mut fields = Fields::new(alloc, line);
+    let word = fields.text()?;
+    if probe_requests::try_answer(word, &mut fields, answer)?
+        || probe_trays::try_answer(word, &mut fields, answer)?
+    {
+        return Ok(());
     }
+    Err(ProbeError::Malformed)
 }

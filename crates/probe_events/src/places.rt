@@ -19,7 +19,5 @@ pub(crate) fn event_place(fields: &mut Fields, answer: &mut Answer) -> Result<()
     let k = fields.number()?;
     let run = fields.bytes()?;
     fields.end()?;
-    answer.count(events::event_place(
-        &run, place, k, version, primary, dependent,
-    ))
+    answer.count(events::event_place(&run, place, k, version, primary, dependent))
 }

@@ -63,10 +63,7 @@ pub fn put_event(answer: &mut Answer, event: ScanEvent, next: u64) -> Result<(),
     answer.number(next)
 }
 
-fn put_answer(
-    answer: &mut Answer,
-    read: Result<EventAndNext, Refusal>,
-) -> Result<(), ProbeError> {
+fn put_answer(answer: &mut Answer, read: Result<EventAndNext, Refusal>) -> Result<(), ProbeError> {
     match read {
         Ok(read) => {
             answer.ok()?;

@@ -1,9 +1,0 @@
--- What is answered stays within the input.
-use Rattle.std.proofs.Common.{◌≤◌, length, ◌-◌}
-use Rattle.probe.proofs.serve.answer_lines.Given as goal
-
-abbrev pub invariant-loop-at : goal.invariant-loop-at
-invariant-loop-at g l = l.at ≤ length l.input
-
-abbrev pub decreases-loop-at : goal.decreases-loop-at
-decreases-loop-at g l = length l.input - l.at
