@@ -10,7 +10,7 @@ ghost use Rattle.calibration.specs.Convert.{series, freq_to_mz, chunk_pairs};
 ghost use Rattle.calibration.specs.Internal.{conversion_of, mz_by, chunk_bins, mz_on};
 
 use float_bits::{f64_of_bits, widened};
-use lists::holds;
+use lists::fits;
 use reader::{saturating_add, u32_at};
 use refusal::Refusal;
 
@@ -152,7 +152,7 @@ pub fn write_chunk(
 ) -> Result<u64, Refusal>
     ensures { LeftPairs (λ m i. pairs_if_fit m i (chunk_pairs bins first_bin fudge coefficients.now run.now at n)) mz.old intensity.old result mz.new intensity.new }
 {
-    if holds(n, mz.len() as u64, holds(n, intensity.len() as u64, true)) {
+    if fits([n, n], [mz.len(), intensity.len()]) {
         write_pairs(
             run,
             at,

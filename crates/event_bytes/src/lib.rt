@@ -15,7 +15,7 @@ use event_preamble::{ScanEventPreamble, decode, size_for_version};
 use event_record::{ScanEvent, activation};
 use event_window::{FoundWindow, Window};
 use float_bits::{bits_of_f64, f64_of_bits};
-use lists::holds;
+use lists::fits;
 use reader::saturating_add;
 use refusal::Refusal;
 use writer::{store_bytes, store_u32, store_u64, store_u64s};
@@ -147,10 +147,9 @@ fn codes_given(event: ScanEvent, preamble: &[u8]) -> bool
 fn activation_given(event: ScanEvent, preamble: &[u8], precursors: &[u64]) -> bool
     ensures { result ≡ activation_given event preamble.now precursors.now }
 {
-    if holds(
-        event.preamble_len,
-        preamble.len() as u64,
-        holds(event.reactions, precursors.len() as u64, true),
+    if fits(
+        [event.preamble_len, event.reactions],
+        [preamble.len(), precursors.len()],
     ) {
         let end = event.preamble_len as usize;
         let n = event.reactions as usize;
@@ -265,22 +264,21 @@ fn write_held(
 {
     let offset = event.reactions * 32 + 8;
     let size = event.preamble_len + offset + event.coefficients * 8 + 28;
-    if holds(
-        event.preamble_len,
-        preamble.len() as u64,
-        holds(
+    if fits(
+        [
+            event.preamble_len,
             event.reactions,
-            precursors.len() as u64,
-            holds(
-                event.reactions,
-                energies.len() as u64,
-                holds(
-                    event.coefficients,
-                    coefficients.len() as u64,
-                    holds(size, out.len() as u64, true),
-                ),
-            ),
-        ),
+            event.reactions,
+            event.coefficients,
+            size,
+        ],
+        [
+            preamble.len(),
+            precursors.len(),
+            energies.len(),
+            coefficients.len(),
+            out.len(),
+        ],
     ) {
         let p = event.preamble_len as usize;
         let n = event.reactions as usize;

@@ -8,7 +8,7 @@ ghost use Rattle.lists.specs.Written.{over, fitting};
 ghost use Rattle.event_reactions.specs.Reactions.{acceptable, kept, record_count, plausible_precursor, has_uncounted, reactions_in, in_source};
 
 use float_bits::{f64_of_bits, is_finite64};
-use lists::holds;
+use lists::fits;
 use reader::{copy, remaining, saturating_add, u32_at, u64_at};
 use refusal::Refusal;
 
@@ -181,11 +181,7 @@ pub fn write_reactions(
         precursors.old energies.old result precursors.new energies.new }
 {
     let count = count_reactions(body, source);
-    if holds(
-        count,
-        precursors.len() as u64,
-        holds(count, energies.len() as u64, true),
-    ) {
+    if fits([count, count], [precursors.len(), energies.len()]) {
         write_source(body, source, precursors, energies);
         return Ok(count);
     }

@@ -11,7 +11,7 @@ ghost use Rattle.event_record.specs.Places.{event_in, event_at};
 use event_preamble::decode;
 use event_reactions::{count_reactions, write_reactions};
 use event_record::{EventAndNext, Lists, Places, ScanEvent, activation};
-use lists::holds;
+use lists::fits;
 use reader::{copy, copy_bytes, saturating_add};
 use refusal::Refusal;
 
@@ -56,18 +56,14 @@ fn write_if_fits(
     let window = found.window;
     let len = bytes.len() as u64;
     let count = count_reactions(body, reactions);
-    if holds(
-        len,
-        preamble.len() as u64,
-        holds(
-            count,
-            precursors.len() as u64,
-            holds(
-                count,
-                energies.len() as u64,
-                holds(j.coefficients, coefficients.len() as u64, true),
-            ),
-        ),
+    if fits(
+        [len, count, count, j.coefficients],
+        [
+            preamble.len(),
+            precursors.len(),
+            energies.len(),
+            coefficients.len(),
+        ],
     ) {
         write_lists(bytes, body, j, preamble, precursors, energies, coefficients);
         let end = count as usize;

@@ -1,13 +1,14 @@
 -- What a call leaves, by its outcome, and the room test.
 use Rattle.std.specs.Prelude.{Ok, Err, Result}
 use mathlib.Core.Path.{◌≡◌, refl, sym, ap, ◌∙◌}
-use Prim.Native.Nat.{ℕ, ◌≤◌, ◌<◌}
+use Prim.Native.Nat.{ℕ, ◌+◌, ◌≤◌, ◌<◌}
 use native.Mathlib.Omega.{arith}
 use mathlib.Core.Bool.{Bool, true, false, ◌&&◌}
 use mathlib.Core.List.{List, [], ◌∷◌, ◌++◌, map}
 use lib.Dec.{leb}
-use lib.ListN.{length, length-map}
+use lib.ListN.{length, get_or, drop, length-map}
 use borrow.Author.Tests.{leb-true, le-leb, lt-leb}
+use Rattle.std.proofs.lemmas.List.{drop_more}
 use Rattle.refusal.specs.Outcome.{Outcome, ok, refused}
 use Rattle.refusal.proofs.Outcomes.{refused_of, ok_not_refused, refused_not_ok}
 use Rattle.refusal.proofs.OneAnswer.{answer_one}
@@ -75,6 +76,17 @@ fits_true (n ∷ ns) [] h = false_not_true h
 fits_true (n ∷ ns) (c ∷ cs) h =
     let both = and_true (leb n c) (fits ns cs) h in
     (leb-true _ _ both.0, fits_true ns cs both.1)
+
+-- one count after the other
+module _ (ns cs : List ℕ) (i : ℕ) (m : i < length ns) (n : i < length cs) where
+  first : fits (drop i ns) (drop i cs) ≡ (leb (get_or ns i 0) (get_or cs i 0) && fits (drop (i + 1) ns) (drop (i + 1) cs))
+  first = rw (drop_more ns i 0 m, drop_more cs i 0 n) refl
+
+  pub fits_next : get_or ns i 0 ≤ get_or cs i 0 → fits (drop i ns) (drop i cs) ≡ fits (drop (i + 1) ns) (drop (i + 1) cs)
+  fits_next h = first ∙ rw (le-leb _ _ h) refl
+
+  pub fits_not : get_or cs i 0 < get_or ns i 0 → fits (drop i ns) (drop i cs) ≡ false
+  fits_not h = first ∙ rw (lt-leb _ _ h) refl
 
 -- ---- a list in one slice
 module _ {A : Type 0} (vs xs : List A) where

@@ -7,7 +7,7 @@ ghost use Rattle.packet_record.specs.Packet.{with_nodes};
 ghost use Rattle.packet_full.specs.Full.{chunk_lists, read_packet};
 ghost use Rattle.packet_full.specs.Internal.{ChunksThere, HasChunks, chunk_list, found_chunks, chunk_count, point_count, chunk_sizes};
 
-use lists::holds;
+use lists::fits;
 use packet_places::find_places;
 use packet_profile::{Profile, fudge_at, head_size};
 use packet_record::{ScanDataPacket, write_packet};
@@ -70,13 +70,18 @@ fn chunk_counts(profile: Option<Profile>) -> ChunkCounts
 }
 
 // Whether slices of these lengths hold the lists of a profile's chunks.
-fn chunks_fit(profile: Option<Profile>, bins: u64, counts: u64, fudges: u64, signal: u64) -> bool
+fn chunks_fit(
+    profile: Option<Profile>,
+    bins: usize,
+    counts: usize,
+    fudges: usize,
+    signal: usize,
+) -> bool
     ensures { result ≡ fits (chunk_sizes profile) (bins ∷ counts ∷ fudges ∷ signal ∷ []) }
 {
     let wanted = chunk_counts(profile);
     let n = wanted.chunks;
-    let values_fit = holds(n, fudges, holds(wanted.points, signal, true));
-    holds(n, bins, holds(n, counts, values_fit))
+    fits([n, n, n, wanted.points], [bins, counts, fudges, signal])
 }
 
 // The lists of a profile's chunks, if there is one.
@@ -119,10 +124,10 @@ pub fn read_packet(
     let profile = places.profile;
     if !chunks_fit(
         profile,
-        bins.len() as u64,
-        counts.len() as u64,
-        fudges.len() as u64,
-        signal.len() as u64,
+        bins.len(),
+        counts.len(),
+        fudges.len(),
+        signal.len(),
     ) {
         return Err(Refusal::NoRoom);
     }

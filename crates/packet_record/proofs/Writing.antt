@@ -37,14 +37,13 @@ module _ (v : PacketPlaces) (s m a d q : List ℕ) where
   room_for = fits (lengths (lists_of (contents_at s v))) (lengths (m ∷ a ∷ d ∷ q ∷ []))
 
   -- the four tests
-  pub tested : {one two three four : Bool} → one ≡ (leb v.labels.resolutions (length q) && true) → two ≡ (leb v.labels.descriptors (length d) && one)
-      → three ≡ (leb v.list.count (length a) && two) → four ≡ (leb v.list.count (length m) && three) → four ≡ room_for
-  tested e f g h =
+  pub tested : {test : Bool} → test ≡ fits (v.list.count ∷ v.list.count ∷ v.labels.descriptors ∷ v.labels.resolutions ∷ []) (lengths (m ∷ a ∷ d ∷ q ∷ [])) → test ≡ room_for
+  tested e =
       let mz = length-map (contents_at s v).peaks (λ p. p.0) ∙ long_peaks in
       let abundance = length-map (contents_at s v).peaks (λ p. p.1) ∙ long_peaks in
       let ds = length-each (λ i. word_at s (v.labels.descriptors_at + i * 4) 4) v.labels.descriptors in
       let rs = length-each (λ i. word_at s (v.labels.unknown_at + 4 + i * 4) 4) v.labels.resolutions in
-      h ∙ rw (g, f, e, mz, abundance, ds, rs)
+      e ∙ rw (mz, abundance, ds, rs)
 
   pub packet_refused : room_for ≡ false → LeftLists (λ c. packet_if_fits c v (contents_at s v) []) (m ∷ a ∷ d ∷ q ∷ []) (refused 8 []) (m ∷ a ∷ d ∷ q ∷ [])
   unfolding packet_if_fits

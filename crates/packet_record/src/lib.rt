@@ -9,7 +9,7 @@ ghost use Rattle.lists.specs.Left.{fits, lengths, over_all, LeftLists};
 ghost use Rattle.packet_labels.specs.Labels.{streams_at};
 ghost use Rattle.packet_record.specs.Packet.{contents_at, with_labels, record_of, lists_of, packet_if_fits, with_nodes};
 
-use lists::holds;
+use lists::fits;
 use packet_header::PacketHeader;
 use packet_labels::{Labels, read_labels};
 use packet_peak_list::{PeakList, item_size};
@@ -127,15 +127,14 @@ pub fn write_packet(
 {
     let n = places.list.count;
     let labels = places.labels;
-    let labels_fit = holds(
-        labels.descriptors,
-        descriptors.len() as u64,
-        holds(labels.resolutions, resolutions.len() as u64, true),
-    );
-    if holds(
-        n,
-        mz.len() as u64,
-        holds(n, abundance.len() as u64, labels_fit),
+    if fits(
+        [n, n, labels.descriptors, labels.resolutions],
+        [
+            mz.len(),
+            abundance.len(),
+            descriptors.len(),
+            resolutions.len(),
+        ],
     ) {
         write_lists(run, places, mz, abundance, descriptors, resolutions);
         return Ok(record_of(places));

@@ -17,7 +17,7 @@ ghost use Rattle.pairs.specs.Pairs.{chunks_of, profile_pairs, peak_pairs};
 
 use calibration::{Bins, write_chunk};
 use float_bits::{f64_of_bits, widened};
-use lists::holds;
+use lists::fits;
 use packet_profile::{Profile, fudge_at, signal_at};
 use peaks::{PeakRow, write_row};
 use reader::{Stored, u32_at, u64_at};
@@ -93,11 +93,7 @@ pub fn to_mz_intensity(
     ensures { LeftPairs (λ m i. pairs_if_fit m i (profile_pairs profile coefficients.now run.now)) mz.old intensity.old result mz.new intensity.new }
 {
     let pairs = count_pairs(run, profile);
-    if holds(
-        pairs,
-        mz.len() as u64,
-        holds(pairs, intensity.len() as u64, true),
-    ) {
+    if fits([pairs, pairs], [mz.len(), intensity.len()]) {
         write_pairs(run, profile, coefficients, mz, intensity);
         return Ok(pairs);
     }

@@ -10,7 +10,7 @@ ghost use Rattle.reader.specs.Beyond.{no_words};
 ghost use Rattle.peaks.specs.Peaks.{widened_bits, row_values, row_peaks};
 
 use float_bits::{bits_of_f64, widened};
-use lists::holds;
+use lists::fits;
 use reader::{Stored, copy, saturating_add, u32_at};
 use refusal::Refusal;
 
@@ -55,8 +55,13 @@ pub fn write_row<W: Stored, N: Stored<Value = W::Value>, A: Stored>(
 ) -> Result<u64, Refusal>
     ensures { LeftPairs (λ m n. pairs_if_fit m n (row_values W.value N.value A.value row run.now)) firsts.old seconds.old result firsts.new seconds.new }
 {
-    let PeakRow { at, stride, count, wide } = row;
-    if holds(count, firsts.len() as u64, holds(count, seconds.len() as u64, true)) {
+    let PeakRow {
+        at,
+        stride,
+        count,
+        wide,
+    } = row;
+    if fits([count, count], [firsts.len(), seconds.len()]) {
         if wide {
             let _ = copy::<W>(run, at, stride, count, firsts);
             let _ = copy::<A>(run, saturating_add(at, 8), stride, count, seconds);

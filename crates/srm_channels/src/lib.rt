@@ -9,7 +9,7 @@ ghost use Rattle.lists.specs.Left.{LeftLists};
 ghost use Rattle.parser.specs.Parser.{word_at};
 ghost use Rattle.srm_channels.specs.Channels.{is_event, from_up_to, channel_test, channel_at, channels_in, channel_list};
 
-use lists::holds;
+use lists::fits;
 use reader::{remaining, u32_at, u64_at};
 use refusal::Refusal;
 use srm_transition::{f64_at, narrow_window};
@@ -134,14 +134,9 @@ pub fn flatv66_event_channels(
 {
     let count = count_channels(data, events);
     let n = count as u64;
-    if holds(
-        n,
-        channel_events.len() as u64,
-        holds(
-            n,
-            q1.len() as u64,
-            holds(n, collision_energy.len() as u64, true),
-        ),
+    if fits(
+        [n, n, n],
+        [channel_events.len(), q1.len(), collision_energy.len()],
     ) {
         write_channels(data, events, channel_events, q1, collision_energy);
         return Ok(n);

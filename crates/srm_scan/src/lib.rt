@@ -8,7 +8,7 @@ ghost use Rattle.lists.specs.Left.{pairs_if_fit, LeftPairs};
 ghost use Rattle.srm_scan.specs.Scan.{read_srm_peaks, find_srm_peaks, read_srm_windows};
 ghost use Rattle.srm_scan.specs.Internal.{channels, windows_at};
 
-use lists::holds;
+use lists::fits;
 use peaks::{PeakRow, write_peaks};
 use reader::{copy, remaining, saturating_add, u32_at};
 use refusal::{Part, Refusal};
@@ -71,7 +71,7 @@ fn write_windows(
     requires { at ≤ length run.now + 28 }
     ensures { LeftPairs (λ l h. pairs_if_fit l h (windows_at run.now at n)) low.old high.old result low.new high.new }
 {
-    if holds(n, low.len() as u64, holds(n, high.len() as u64, true)) {
+    if fits([n, n], [low.len(), high.len()]) {
         let _ = copy::<u32>(run, at, 8, n, low);
         let _ = copy::<u32>(run, at + 4, 8, n, high);
         return Ok(n);

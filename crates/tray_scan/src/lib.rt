@@ -13,7 +13,7 @@ ghost use Rattle.tray_scan.specs.Internal.{entry_of, in_turn, parts_at, CountHol
 use event_record::{Places, ScanEvent};
 use event_writer::write_event;
 use events::find_event;
-use lists::holds;
+use lists::fits;
 use refusal::Refusal;
 use scan_format::ScanDataFormat;
 use scan_index::ScanIndexEntry;
@@ -108,11 +108,7 @@ fn write_scan(
     let places = p.event;
     let data = p.data;
     let pairs = pair_count(data);
-    if holds(
-        pairs,
-        mz.len() as u64,
-        holds(pairs, intensity.len() as u64, true),
-    ) {
+    if fits([pairs, pairs], [mz.len(), intensity.len()]) {
         let read = write_event(run, places, preamble, precursors, energies, coefficients)?;
         let event = read.event;
         let n = event.coefficients as usize;

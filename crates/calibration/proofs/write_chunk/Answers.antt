@@ -11,18 +11,18 @@ use Rattle.calibration.proofs.write_chunk.Goals as goal
 pub write_pairs-requires : goal.write_pairs-requires
 write_pairs-requires c =
     let a = c.args in
-    let w = fits_true (a.n ∷ a.n ∷ []) (length a.mz.now ∷ length a.intensity.now ∷ []) (sym (rw c.holds.ensures at c.holds-2.ensures) ∙ c.if-holds.true) in
+    let w = fits_true (a.n ∷ a.n ∷ []) (length a.mz.now ∷ length a.intensity.now ∷ []) (sym c.fits.ensures ∙ c.if-fits.true) in
     record { n_in_bounds = w.0; n_in_bounds_2 = w.1.0 }
 
-pub returns-then-holds : goal.returns-then-holds
+pub returns-then-fits : goal.returns-then-fits
 unfolding chunk_pairs
-returns-then-holds c =
+returns-then-fits c =
     let a = c.args in
     let w = c.write_pairs.ensures in
     each_over (mz_of a.bins a.first_bin a.fudge a.coefficients.now) (λ k. f32_at a.run.now (a.at + k * 4)) a.n a.mz.now a.intensity.now
-    (sym (rw c.holds.ensures at c.holds-2.ensures) ∙ c.if-holds.true)
+    (sym c.fits.ensures ∙ c.if-fits.true)
     (mz_written _ _ _ _ _ _ _ _ _ w.mz_after c.conversion_of.ensures c.chunk_bins.ensures) w.intensity_after
 
 pub returns : goal.returns
 unfolding chunk_pairs
-returns c = pairs_no_room _ (length-each _ _) _ _ (sym (rw c.holds.ensures at c.holds-2.ensures) ∙ c.if-holds.false)
+returns c = pairs_no_room _ (length-each _ _) _ _ (sym c.fits.ensures ∙ c.if-fits.false)

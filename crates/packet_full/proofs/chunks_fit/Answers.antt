@@ -3,4 +3,4 @@ use Rattle.packet_full.proofs.chunks_fit.Goals as goal
 
 pub returns : goal.returns
 returns c =
-    rw (c.holds-3.ensures, c.holds-2.ensures, c.holds-values_fit.ensures, c.holds.ensures, c.chunk_counts-wanted.ensures.chunks_value, c.chunk_counts-wanted.ensures.points_value)
+    rw (c.fits.ensures, c.chunk_counts-wanted.ensures.chunks_value, c.chunk_counts-wanted.ensures.points_value)

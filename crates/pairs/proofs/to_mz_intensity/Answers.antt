@@ -11,18 +11,18 @@ pub write_pairs-requires : goal.write_pairs-requires
 write_pairs-requires c =
     let a = c.args in
     let n = c.count_pairs-pairs.result in
-    let w = fits_true (n ∷ n ∷ []) (length a.mz.now ∷ length a.intensity.now ∷ []) (sym (rw c.holds.ensures at c.holds-2.ensures) ∙ c.if-holds.true) in
+    let w = fits_true (n ∷ n ∷ []) (length a.mz.now ∷ length a.intensity.now ∷ []) (sym c.fits.ensures ∙ c.if-fits.true) in
     rw (← c.count_pairs-pairs.ensures) record { run_in_bounds = w.0; run_in_bounds_2 = w.1.0 }
 
-pub returns-then-holds : goal.returns-then-holds
-returns-then-holds c =
+pub returns-then-fits : goal.returns-then-fits
+returns-then-fits c =
     let a = c.args in
     let w = c.write_pairs.ensures in
     pairs_over _ _ _ (counted a.profile a.coefficients.now a.run.now ∙ sym c.count_pairs-pairs.ensures)
-    (sym (rw c.holds.ensures at c.holds-2.ensures) ∙ c.if-holds.true) w.mz_after w.intensity_after
+    (sym c.fits.ensures ∙ c.if-fits.true) w.mz_after w.intensity_after
 
 pub returns : goal.returns
 returns c =
     let a = c.args in
     pairs_no_room _ (counted a.profile a.coefficients.now a.run.now ∙ sym c.count_pairs-pairs.ensures) _ _
-    (sym (rw c.holds.ensures at c.holds-2.ensures) ∙ c.if-holds.false)
+    (sym c.fits.ensures ∙ c.if-fits.false)

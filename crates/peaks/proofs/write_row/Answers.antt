@@ -13,7 +13,7 @@ returns-then-wide g c =
     let n = g.N.Stored.value in
     let f = g.A.Stored.value in
     let s = a.run.now in
-    let room = sym (rw c.holds.ensures at c.holds-2.ensures) ∙ c.if-holds.true in
+    let room = sym c.fits.ensures ∙ c.if-fits.true in
     pairs_written _ (length-row w n f a.row s) _ _ room
     (c.copy.ensures.stands ∙ ap (λ l. fitting l a.firsts.now) (wide_firsts w n f a.row s c.if-wide.true))
     (c.copy-then-wide.ensures.stands ∙ ap (λ l. fitting l a.seconds.now) (wide_seconds w n f a.row s g.met.A.Stored.beyond (omega arith) c.if-wide.true c.saturating_add.ensures))
@@ -25,7 +25,7 @@ returns-else-wide g c =
     let n = g.N.Stored.value in
     let f = g.A.Stored.value in
     let s = a.run.now in
-    let room = sym (rw c.holds.ensures at c.holds-2.ensures) ∙ c.if-holds.true in
+    let room = sym c.fits.ensures ∙ c.if-fits.true in
     pairs_written _ (length-row w n f a.row s) _ _ room
     (c.copy-else-wide.ensures.stands ∙ ap (λ l. fitting l a.firsts.now) (narrow_firsts w n f a.row s c.if-wide.false))
     (c.copy-else-wide-2.ensures.stands ∙ ap (λ l. fitting l a.seconds.now) (narrow_seconds w n f a.row s g.met.A.Stored.beyond (omega arith) c.if-wide.false c.saturating_add-else-wide.ensures))
@@ -33,4 +33,4 @@ returns-else-wide g c =
 pub returns : goal.returns
 returns g c =
     let a = c.args in
-    pairs_no_room _ (length-row g.W.Stored.value g.N.Stored.value g.A.Stored.value a.row a.run.now) _ _ (sym (rw c.holds.ensures at c.holds-2.ensures) ∙ c.if-holds.false)
+    pairs_no_room _ (length-row g.W.Stored.value g.N.Stored.value g.A.Stored.value a.row a.run.now) _ _ (sym c.fits.ensures ∙ c.if-fits.false)
