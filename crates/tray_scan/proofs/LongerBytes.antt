@@ -38,6 +38,7 @@ use Rattle.tray_data.specs.Data.{Finding, of_finding, data_start, pairs}
 use Rattle.tray_data.proofs.LongerBytes.{data_bounded, finding_not_truncated}
 use Rattle.tray_scan.specs.Scan.{format_in, entry_in, tray_event, ScanParts, scan_parts, WrittenScan, scan_if_fits, scan_at, end_in, place_or_end}
 use Rattle.tray_scan.specs.Internal.{entry_of, with_data}
+use Rattle.tray_scan.specs.declared.Scan.{Scan}
 use Rattle.tray_scan.specs.declared.ScanAndNext.{ScanAndNext}
 use Rattle.tray_scan.proofs.Parts.{entry_alone}
 
