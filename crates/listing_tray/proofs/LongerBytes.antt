@@ -27,6 +27,7 @@ use Rattle.tray_header.proofs.Found.{Words}
 use Rattle.tray_header.proofs.LongerBytes.{tray_header_prefix, tray_header_completes}
 use Rattle.tray_scan.specs.declared.Scan.{Scan}
 use Rattle.tray_scan.specs.Scan.{WrittenScan, format_in, scan_at, end_in, place_or_end}
+use Rattle.tray_scan.specs.declared.Scan.{Scan}
 use Rattle.tray_scan.proofs.LongerBytes.{AtNear, scan_at_prefix, scan_at_names, scan_at_completes, next_stays}
 use Rattle.listing_tray.specs.Listing.{capacities, scan_text, header_text}
 use Rattle.listing_tray.specs.declared.ListedScan.{ListedScan}

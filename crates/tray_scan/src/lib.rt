@@ -127,10 +127,7 @@ fn write_scan(
 fn next_place(event: Result<Places, Refusal>) -> u64
     ensures { result ≡ next_place event }
 {
-    match event {
-        Err(_) => u64::MAX,
-        Ok(p) => p.next,
-    }
+    event.map_or(u64::MAX, |p| p.next)
 }
 
 // Scan k, whose event stands at a place of the run.

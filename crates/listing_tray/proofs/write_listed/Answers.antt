@@ -5,7 +5,6 @@ use mathlib.Core.List.{zip}
 use lib.ListN.{length-take}
 use Rattle.listing_pairs.specs.Listed.{listed_pairs}
 use Rattle.listing_pairs.proofs.Keeping.{Kept, fronts}
-use borrow.Author.Rules.{rules}
 use Rattle.listing_tray.proofs.write_listed.Goals as goal
 use Rattle.listing_tray.proofs.write_listed.Goals.{After-keep_listed-n}
 

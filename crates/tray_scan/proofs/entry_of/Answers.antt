@@ -5,7 +5,6 @@ use native.Mathlib.Nat.{mul-le-mul_left}
 use native.Mathlib.Omega.{arith}
 use Rattle.scan_index.specs.Entry.{read_entry}
 use Rattle.scan_index.proofs.Size.{entry_most}
-use borrow.Author.Rules.{rules}
 use Rattle.tray_scan.proofs.entry_of.Goals as goal
 use Rattle.tray_scan.proofs.entry_of.Goals.{After-min_size_for_version-size}
 
