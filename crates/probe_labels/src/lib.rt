@@ -11,7 +11,7 @@ use probe_text::fields::LENT;
 use probe_text::{Answer, Fields, ProbeError};
 use refusal::Refusal;
 
-// No request holds a packet of more peaks.
+// No request holds a packet of more peaks: a peak takes 8 bytes, and a line holds at most 32,768 bytes of a run.
 const PEAKS: usize = 4096;
 
 fn narrow(fields: &mut Fields, answer: &mut Answer) -> Result<(), ProbeError> {
@@ -81,11 +81,7 @@ fn labels(fields: &mut Fields, answer: &mut Answer) -> Result<(), ProbeError> {
 }
 
 // The packet at a place, and the masses of its peaks.
-fn packet_at(
-    run: &[u8],
-    place: u64,
-    mz: &mut [u64; PEAKS],
-) -> Result<ScanDataPacket, Refusal> {
+fn packet_at(run: &[u8], place: u64, mz: &mut [u64; PEAKS]) -> Result<ScanDataPacket, Refusal> {
     read_skip_profile(
         run,
         place,
@@ -111,6 +107,7 @@ fn packet_noise(fields: &mut Fields, answer: &mut Answer) -> Result<(), ProbeErr
 fn label_packet(run: &[u8], place: u64, lent: &mut LabelSlices) -> Result<u64, Refusal> {
     let mut mz = [0u64; PEAKS];
     let packet = packet_at(run, place, &mut mz)?;
+    // A packet of more peaks is refused.
     let peaks = (packet.peaks as usize).min(PEAKS);
     label_packet_peaks(
         run,

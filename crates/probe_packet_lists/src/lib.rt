@@ -49,11 +49,7 @@ fn put_profile(answer: &mut Answer, profile: Option<Profile>) -> Result<(), Prob
 }
 
 // The fields of a packet of the run.
-fn put_fields(
-    answer: &mut Answer,
-    run: &[u8],
-    packet: ScanDataPacket,
-) -> Result<(), ProbeError> {
+fn put_fields(answer: &mut Answer, run: &[u8], packet: ScanDataPacket) -> Result<(), ProbeError> {
     put_header(answer, packet.header)?;
     put_profile(answer, packet.profile)?;
     answer.number(packet.peaks)?;

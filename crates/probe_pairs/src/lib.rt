@@ -37,14 +37,7 @@ fn pairs(fields: &mut Fields, answer: &mut Answer) -> Result<(), ProbeError> {
     let coefficients = fields.u64s()?;
     let run = fields.bytes()?;
     fields.end()?;
-    let count = read_pairs(
-        &run,
-        place,
-        layout,
-        &coefficients,
-        &mut mz,
-        &mut intensity,
-    );
+    let count = read_pairs(&run, place, layout, &coefficients, &mut mz, &mut intensity);
     answer.count(count)?;
     answer.slice(&mz)?;
     answer.slice(&intensity)

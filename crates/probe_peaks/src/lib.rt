@@ -48,14 +48,7 @@ fn flat(fields: &mut Fields, answer: &mut Answer) -> Result<(), ProbeError> {
     let mut lent = PeakSlices::lent(fields)?;
     let run = fields.bytes()?;
     fields.end()?;
-    let count = read_flat_peaks(
-        &run,
-        data,
-        offset,
-        size,
-        &mut lent.mz,
-        &mut lent.abundance,
-    );
+    let count = read_flat_peaks(&run, data, offset, size, &mut lent.mz, &mut lent.abundance);
     answer.count(count)?;
     lent.put(answer)
 }
@@ -84,10 +77,7 @@ fn srm_windows(fields: &mut Fields, answer: &mut Answer) -> Result<(), ProbeErro
     answer.slice(&high)
 }
 
-fn put_found(
-    answer: &mut Answer,
-    found: Result<(u64, u64), Refusal>,
-) -> Result<(), ProbeError> {
+fn put_found(answer: &mut Answer, found: Result<(u64, u64), Refusal>) -> Result<(), ProbeError> {
     match found {
         Ok((place, count)) => {
             answer.ok_number(place)?;

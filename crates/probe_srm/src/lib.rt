@@ -39,13 +39,7 @@ fn channels(fields: &mut Fields, answer: &mut Answer) -> Result<(), ProbeError> 
     let mut energy = fields.lent::<u64>(LENT)?;
     let data = fields.bytes()?;
     fields.end()?;
-    let count = flatv66_event_channels(
-        &data,
-        &events,
-        &mut channel_events,
-        &mut q1,
-        &mut energy,
-    );
+    let count = flatv66_event_channels(&data, &events, &mut channel_events, &mut q1, &mut energy);
     answer.count(count)?;
     answer.slice(&channel_events)?;
     answer.slice(&q1)?;
