@@ -43,10 +43,8 @@ fn judge_records(start: u64, body: &[u8], n: u64) -> Result<(), Refusal>
     requires { (start < 2 ^ 63 + 2 ^ 32) × (n < 2 ^ 32) }
     ensures { outcome_of result ≡ judge_records start body.now n }
 {
-    let mut i: u64 = 0;
-    while i < n {
+    for i in 0..n {
         judge_record(start, body, i)?;
-        i = i + 1;
     }
     Ok(())
 }

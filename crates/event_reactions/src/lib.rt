@@ -62,13 +62,11 @@ fn count_kept(body: &[u8], from: u64, n: u64) -> u64
     requires { (from ≤ 8) × (n * 32 ≤ length body.now) }
     ensures { result ≡ length (kept body.now from n) }
 {
-    let mut count: u64 = 0;
-    let mut i: u64 = 0;
-    while i < n {
+    let mut count = 0;
+    for i in 0..n {
         if acceptable(u64_at(body, from + i * 32)) {
-            count = count + 1;
+            count += 1;
         }
-        i = i + 1;
     }
     count
 }
@@ -82,18 +80,16 @@ fn write_kept(body: &[u8], from: u64, n: u64, precursors: &mut [u64], energies: 
     ensures precursors_after { precursors.new ≡ over (firsts (kept body.now from n)) precursors.old }
     ensures energies_after { energies.new ≡ over (seconds (kept body.now from n)) energies.old }
 {
-    let mut count: u64 = 0;
-    let mut i: u64 = 0;
-    while i < n {
+    let mut count = 0;
+    for i in 0..n {
         let offset = from + i * 32;
         let precursor = u64_at(body, offset);
         if acceptable(precursor) {
             let k = count as usize;
             precursors[k] = precursor;
             energies[k] = u64_at(body, offset + 16);
-            count = count + 1;
+            count += 1;
         }
-        i = i + 1;
     }
     count
 }

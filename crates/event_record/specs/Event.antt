@@ -40,4 +40,3 @@ event_lists e = e.preamble ∷ firsts e.reactions ∷ seconds e.reactions ∷ e.
 
 unfoldable pub event_if_fits : List ℕ → Event → ℕ → Outcome (EventAndNext × List (List ℕ))
 event_if_fits capacities e next = lists_if_fit capacities (answer_of e next) (event_lists e)
-

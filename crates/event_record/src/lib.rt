@@ -57,18 +57,14 @@ fn has_precursor(bits: u64) -> bool
     0.0 < f64_of_bits(bits)
 }
 
+#[tactic(auto, using(crate::proofs::Precursors::is_count))]
 fn with_precursor(precursors: &[u64]) -> u64
     ensures { result ≡ with_precursor precursors.now }
 {
-    let mut n: u64 = 0;
-    let mut i: usize = 0;
-    while i < precursors.len() {
-        if has_precursor(precursors[i]) {
-            n = n + 1;
-        }
-        i = i + 1;
-    }
-    n
+    precursors
+        .iter()
+        .filter(|&&bits| has_precursor(bits))
+        .count() as u64
 }
 
 // An FTMS MS2 event with two or more reactions of which exactly one has a precursor: the other is the supplemental step.
@@ -85,18 +81,8 @@ fn supplemented(activation: Activation, supplemental: bool) -> Activation
     ensures { result ≡ supplemented_by activation supplemental }
 {
     match activation {
-        Activation::ETD => {
-            if supplemental {
-                Activation::EThcD
-            } else {
-                Activation::ETD
-            }
-        }
-        Activation::None => activation,
-        Activation::HCD => activation,
-        Activation::CID => activation,
-        Activation::EThcD => activation,
-        Activation::Unknown(_) => activation,
+        Activation::ETD if supplemental => Activation::EThcD,
+        other => other,
     }
 }
 

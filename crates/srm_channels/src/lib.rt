@@ -26,14 +26,7 @@ pub struct Channel {
 fn is_event(id: u32, events: &[u16]) -> bool
     ensures { result ≡ is_event id events.now }
 {
-    let mut k: usize = 0;
-    while k < events.len() {
-        if events[k] as u32 == id {
-            return true;
-        }
-        k = k + 1;
-    }
-    false
+    events.iter().any(|&event| event as u32 == id)
 }
 
 fn from_up_to(x: f64, low: f64, high: f64) -> bool
@@ -78,14 +71,11 @@ fn channel_at(data: &[u8], i: u64) -> Channel
 fn count_channels(data: &[u8], events: &[u16]) -> usize
     ensures { result ≡ length (channels_in events.now «data».now) }
 {
-    let end = remaining(data, 48);
-    let mut count: usize = 0;
-    let mut i: u64 = 24;
-    while i < end {
+    let mut count = 0;
+    for i in 24..remaining(data, 48) {
         if is_channel(data, events, i) {
-            count = count + 1;
+            count += 1;
         }
-        i = i + 1;
     }
     count
 }
@@ -105,18 +95,15 @@ fn write_channels(
     ensures q1_after { q1.new ≡ over (map (λ c. c.q1) (channels_in events.now «data».now)) q1.old }
     ensures collision_energy_after { collision_energy.new ≡ over (map (λ c. c.collision_energy) (channels_in events.now «data».now)) collision_energy.old }
 {
-    let end = remaining(data, 48);
-    let mut written: usize = 0;
-    let mut i: u64 = 24;
-    while i < end {
+    let mut written = 0;
+    for i in 24..remaining(data, 48) {
         if is_channel(data, events, i) {
             let channel = channel_at(data, i);
             channel_events[written] = channel.event;
             q1[written] = channel.q1;
             collision_energy[written] = channel.collision_energy;
-            written = written + 1;
+            written += 1;
         }
-        i = i + 1;
     }
 }
 

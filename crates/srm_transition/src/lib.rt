@@ -74,13 +74,10 @@ fn v63_at(data: &[u8], j: u64) -> Transition
 pub fn search_v63_transition(data: &[u8], q3_center_target: f64) -> Option<Transition>
     ensures { result ≡ search_v63_transition q3_center_target «data».now }
 {
-    let end = remaining(data, 32);
-    let mut j: u64 = 8;
-    while j < end {
+    for j in 8..remaining(data, 32) {
         if v63_test(data, j, q3_center_target) {
             return Some(v63_at(data, j));
         }
-        j = j + 1;
     }
     None
 }
@@ -125,16 +122,13 @@ fn event_test(data: &[u8], i: u64, event: u16, q3_hi: f64) -> bool
 pub fn flatv66_event_transition(data: &[u8], event: u16, q3_hi: f64) -> Option<EventTransition>
     ensures { result ≡ flatv66_event_transition event q3_hi «data».now }
 {
-    let end = remaining(data, 8);
-    let mut i: u64 = 24;
-    while i < end {
+    for i in 24..remaining(data, 8) {
         if event_test(data, i, event, q3_hi) {
             return Some(EventTransition {
                 place: i,
                 q1: u64_at(data, i - 16),
             });
         }
-        i = i + 1;
     }
     None
 }

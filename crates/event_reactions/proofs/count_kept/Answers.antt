@@ -7,19 +7,19 @@ use Rattle.event_reactions.proofs.count_kept.Goals as goal
 use Rattle.event_reactions.proofs.count_kept.Goals.{then-acceptable, else-acceptable}
 
 pub loop-i-init : goal.loop-i-init
-loop-i-init c = (count_none _ _, search rules)
+loop-i-init c = count_none _ _
 
 pub loop-i-preserved : goal.loop-i-preserved
 loop-i-preserved c =
     let inv = c.loop-i.invariant in
     let says = rw c.u64_at.ensures at c.acceptable.ensures in
     elim c.if-acceptable.branch [
-      | then-acceptable w ↦ (rw w.count-is (count_in _ _ _ _ (sym says ∙ w.if-acceptable.true) inv.0), omega arith)
-      | else-acceptable w ↦ (rw w.count-is (count_out _ _ _ _ (sym says ∙ w.if-acceptable.false) inv.0), omega arith)
+      | then-acceptable w ↦ rw w.count-is (count_in _ _ _ _ (sym says ∙ w.if-acceptable.true) inv)
+      | else-acceptable w ↦ rw w.count-is (count_out _ _ _ _ (sym says ∙ w.if-acceptable.false) inv)
     ]
 
 pub returns : goal.returns
 returns c =
     let l = c.loop-i in
     let all : l.i ≡ c.args.n = omega arith in
-    rw all at l.invariant.0.counted
+    rw all at l.invariant.counted

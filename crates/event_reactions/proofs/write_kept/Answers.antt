@@ -12,7 +12,7 @@ use Rattle.event_reactions.proofs.write_kept.Goals.{then-acceptable, else-accept
 use Rattle.event_reactions.proofs.write_kept.Goals.{After-acceptable}
 
 pub loop-i-init : goal.loop-i-init
-loop-i-init c = (count_none _ _, write_none _ _ _ _, search rules)
+loop-i-init c = (count_none _ _, write_none _ _ _ _)
 
 -- there is room for a record that is kept
 module _ (c : After-acceptable) (taken : c.acceptable.result ≡ true) where
@@ -38,10 +38,10 @@ loop-i-preserved c =
           let h = says ∙ w.if-acceptable.true in
           let fits = next_fits (goal.at.loop-i-preserved c).After-acceptable w.if-acceptable.true in
           let stored = write_in _ _ _ _ _ _ _ _ h inv.0.counted (omega arith) (omega arith) inv.1 in
-          (rw w.count-is (count_in _ _ _ _ h inv.0), rw (w.precursors-is, w.energies-is, bits, w.u64_at.ensures) stored, omega arith)
+          (rw w.count-is (count_in _ _ _ _ h inv.0), rw (w.precursors-is, w.energies-is, bits, w.u64_at.ensures) stored)
       | else-acceptable w ↦
           let h = says ∙ w.if-acceptable.false in
-          (rw w.count-is (count_out _ _ _ _ h inv.0), rw (w.precursors-is, w.energies-is) (write_out _ _ _ _ _ _ _ h inv.1), omega arith)
+          (rw w.count-is (count_out _ _ _ _ h inv.0), rw (w.precursors-is, w.energies-is) (write_out _ _ _ _ _ _ _ h inv.1))
     ]
 
 pub shape_of-precursors : goal.shape_of-precursors

@@ -5,7 +5,4 @@ use Rattle.srm_channels.proofs.Turns.{Counted}
 use Rattle.srm_channels.proofs.count_channels.Given as goal
 
 abbrev pub invariant-loop-i : goal.invariant-loop-i
-invariant-loop-i l = Counted (channel_test l.events l.data) (channel_at l.data) 24 l.count l.i × (l.i - 24 ≤ l.end - 24)
-
-abbrev pub decreases-loop-i : goal.decreases-loop-i
-decreases-loop-i l = l.end - l.i
+invariant-loop-i l = Counted (channel_test l.events l.data) (channel_at l.data) 24 l.count l.i × (l.i - 24 ≤ l.i-end - 24)

@@ -1,25 +1,13 @@
--- `srm_channels::is_event` meets its contract. The invariant: none of the first k numbers is `id`.
-use mathlib.Core.Path.{refl, sym, ◌∙◌}
-use native.Mathlib.Omega.{arith}
-use Rattle.srm_channels.proofs.IsEvent.{event_here, event_later, event_none}
-use borrow.Author.Rules.{rules}
+-- `srm_channels::is_event` meets its contract: the events are looked through as `any` does.
+use lib.Dec.{eqb}
+use Rattle.std.proofs.Common.{rules, tests}
+use Rattle.std.proofs.lemmas.Iterator.{YieldsList-from_slice}
+use Rattle.std.proofs.lemmas.Iterator.Search.{any_from_yields_List}
+use Rattle.srm_channels.proofs.IsEvent.{is_any}
 use Rattle.srm_channels.proofs.is_event.Goals as goal
 
-pub loop-k-init : goal.loop-k-init
-loop-k-init c = refl
-
-pub overflow_cast-events : goal.overflow_cast-events
-overflow_cast-events c = omega (arith, c.type_inv.events c.loop-k.k)
-
-pub returns-then-events-k : goal.returns-then-events-k
-returns-then-events-k c =
-    let a = c.args in
-    sym (c.loop-k.invariant ∙ event_here a.id a.events.now c.loop-k.k (search rules) c.if-events-k.true)
-
-pub loop-k-preserved : goal.loop-k-preserved
-loop-k-preserved c =
-    let a = c.args in
-    c.loop-k.invariant ∙ event_later a.id a.events.now c.loop-k.k (search rules) c.if-events-k.false
-
 pub returns : goal.returns
-returns c = sym (c.loop-k.invariant ∙ event_none _ _ _ c.loop-k-test.false)
+returns c =
+    let a = c.args in
+    rw is_any
+    (any_from_yields_List (λ event. eqb event a.id) _ _ _ c.any.ensures.ran (YieldsList-from_slice a.events.now (cc)) (λ x b q k. search (rules, tests)))

@@ -9,7 +9,4 @@ invariant-loop-i l = Counted (channel_test l.events l.data) (channel_at l.data) 
     × Written (channel_test l.events l.data) (channel_at l.data) 24 (λ c. c.event) l.initial.channel_events l.channel_events l.i
     × Written (channel_test l.events l.data) (channel_at l.data) 24 (λ c. c.q1) l.initial.q1 l.q1 l.i
     × Written (channel_test l.events l.data) (channel_at l.data) 24 (λ c. c.collision_energy) l.initial.collision_energy l.collision_energy l.i
-    × (l.i - 24 ≤ l.end - 24)
-
-abbrev pub decreases-loop-i : goal.decreases-loop-i
-decreases-loop-i l = l.end - l.i
+    × (l.i - 24 ≤ l.i-end - 24)
