@@ -12,18 +12,9 @@ use Rattle.writer.proofs.Stores.{sets_append, sets_word, sets_saturated}
 use Rattle.event_window.specs.declared.FoundWindow.{FoundWindow}
 use Rattle.event_reactions.specs.Reactions.{Reaction}
 use Rattle.event_before_66.specs.Layout.{reaction, layout_before_66}
-use Rattle.event_bytes.specs.Write.{zip, event_from}
-
-pub length-zip : (ps es : List ℕ) → length (zip ps es) ≡ min (length ps) (length es)
-length-zip [] es = omega arith
-length-zip (p ∷ ps) [] = omega arith
-length-zip (p ∷ ps) (e ∷ es) = omega (arith, length-zip ps es)
-
-pub get_d_zip : (ps es : List ℕ) (i : ℕ) → i < length ps → i < length es → get_or (zip ps es) i (0, 0) ≡ (get_or ps i 0, get_or es i 0)
-get_d_zip [] es i h l = absurd (omega arith)
-get_d_zip (p ∷ ps) [] i h l = absurd (omega arith)
-get_d_zip (p ∷ ps) (e ∷ es) zero h l = refl
-get_d_zip (p ∷ ps) (e ∷ es) (suc i) h l = get_d_zip ps es i (omega arith) (omega arith)
+use Rattle.std.specs.List.{zip}
+use Rattle.std.proofs.lemmas.Slice.Zip.{length-zip}
+use Rattle.event_bytes.specs.Write.{event_from}
 
 pub reaction_size : (r : Reaction) → length (written reaction r) ≡ 32
 unfolding reaction

@@ -1,60 +1,30 @@
 -- Codes and activations that are tested as the same are equal.
 use Rattle.std.specs.Prelude.{Some, None, Option}
+use Rattle.std.proofs.Common.{rules, tests}
+use Rattle.std.proofs.Math.Bool.{and-true}
+use Rattle.std.specs.Option.{option_eq}
 use mathlib.Core.Path.{◌≡◌, refl, ap, sym, ◌∙◌}
 use Prim.Native.Nat.{ℕ, suc, ◌+◌, ◌-◌}
 use native.Mathlib.Omega.{arith}
-use mathlib.Core.Bool.{Bool, true, false, cond}
+use mathlib.Core.Bool.{Bool, true, false, beq, cond}
 use lib.Dec.{eqb}
 use borrow.Author.Tests.{eqb-true, eq-eqb, ne_eqb}
 use Rattle.lists.proofs.Cases.{and_true, false_not_true}
+use Rattle.codes.specs.contracts.ActivationPartialEq.TheImpl as of_activation
+use Rattle.event_preamble.specs.contracts.ScanEventPreamblePartialEq.TheImpl as of_preamble
 use Rattle.codes.specs.declared.Activation.{Activation}
 use Rattle.codes.specs.declared.Activation.TheVariants as activation
 use Rattle.event_preamble.specs.declared.ScanEventPreamble.{ScanEventPreamble}
 use Rattle.event_bytes.specs.Codes.{code_number, activation_number, same_code, same_activation, same_flag, same_codes}
-use Rattle.event_bytes.specs.Internal.{same_last}
 
 code_same : (a b : Option ℕ) → same_code a b ≡ true → a ≡ b
-code_same None None h = refl
-code_same None (Some y) h = absurd (omega (arith, eqb-true 0 (suc y) h))
-code_same (Some x) None h = absurd (omega (arith, eqb-true (suc x) 0 h))
-code_same (Some x) (Some y) h = let e : x ≡ y = omega (arith, eqb-true (suc x) (suc y) h) in rw e
-
--- the activation of a number
-back : ℕ → Activation
-back n =
-    cond (eqb n 0) activation.None
-    (cond (eqb n 1) activation.HCD
-    (cond (eqb n 2) activation.CID
-    (cond (eqb n 3) activation.ETD
-    (cond (eqb n 4) activation.EThcD
-    (activation.Unknown (n - 5))))))
-
-number_back : (a : Activation) → back (activation_number a) ≡ a
-unfolding back
-number_back activation.None = refl
-number_back activation.HCD = refl
-number_back activation.CID = refl
-number_back activation.ETD = refl
-number_back activation.EThcD = refl
-number_back (activation.Unknown b) =
-    let e : b + 5 - 5 ≡ b = omega arith in
-    rw (
-      ne_eqb (b + 5) 0 (λ h. omega arith),
-      ne_eqb (b + 5) 1 (λ h. omega arith),
-      ne_eqb (b + 5) 2 (λ h. omega arith),
-      ne_eqb (b + 5) 3 (λ h. omega arith),
-      ne_eqb (b + 5) 4 (λ h. omega arith),
-      e,
-    )
+code_same a b h = search (rules, tests)
 
 pub activation_same : (a b : Activation) → same_activation a b ≡ true → a ≡ b
-activation_same a b h = sym (number_back a) ∙ ap back (eqb-true (activation_number a) (activation_number b) h) ∙ number_back b
+activation_same a b h = search (rules, tests)
 
 flag_same : (a b : Bool) → same_flag a b ≡ true → a ≡ b
-flag_same true true h = refl
-flag_same true false h = false_not_true h
-flag_same false true h = false_not_true h
-flag_same false false h = refl
+flag_same a b h = search (rules, tests)
 
 pub codes_same : (a b : ScanEventPreamble) → same_codes a b ≡ true → a ≡ b
 codes_same a b h =
@@ -63,7 +33,7 @@ codes_same a b h =
     let h₃ = and_true (same_code a.ms_power b.ms_power) _ h₂.1 in
     let h₄ = and_true (same_code a.scan_type b.scan_type) _ h₃.1 in
     let h₅ = and_true (same_flag a.dependent b.dependent) _ h₄.1 in
-    let h₆ = and_true (same_flag a.dia b.dia) (same_last a b) h₅.1 in
+    let h₆ = and_true (same_flag a.dia b.dia) _ h₅.1 in
     let h₇ = and_true (same_code a.ionization b.ionization) _ h₆.1 in
     let h₈ = and_true (same_activation a.activation b.activation) _ h₇.1 in
     let h₉ = and_true (eqb a.activation_byte b.activation_byte) _ h₈.1 in
@@ -86,8 +56,7 @@ pub activation_itself : (a : Activation) → same_activation a a ≡ true
 activation_itself a = eq-eqb (activation_number a) (activation_number a) refl
 
 flag_itself : (a : Bool) → same_flag a a ≡ true
-flag_itself true = refl
-flag_itself false = refl
+flag_itself a = search (rules, tests)
 
 pub codes_themselves : (a : ScanEventPreamble) → same_codes a a ≡ true
 codes_themselves a =
@@ -104,3 +73,29 @@ codes_themselves a =
       flag_itself a.wideband,
       code_itself a.analyzer,
     )
+
+-- what `==` computes is this test
+code_eq : (a b : Option ℕ) → option_eq eqb a b ≡ same_code a b
+code_eq a b = search (rules, tests)
+
+flag_eq : (a b : Bool) → beq a b ≡ same_flag a b
+flag_eq a b = search (rules, tests)
+
+activation_eq : (a b : Activation) → of_activation.ghosts.eq a b ≡ same_activation a b
+activation_eq a b = search (rules, tests)
+
+pub codes_eq : (a b : ScanEventPreamble) → of_preamble.ghosts.eq a b ≡ same_codes a b
+codes_eq a b =
+    rw (
+      code_eq a.polarity b.polarity,
+      code_eq a.scan_mode b.scan_mode,
+      code_eq a.ms_power b.ms_power,
+      code_eq a.scan_type b.scan_type,
+      flag_eq a.dependent b.dependent,
+      flag_eq a.dia b.dia,
+      code_eq a.ionization b.ionization,
+      activation_eq a.activation b.activation,
+      flag_eq a.wideband b.wideband,
+      code_eq a.analyzer b.analyzer,
+    )
+    (rw and-true)

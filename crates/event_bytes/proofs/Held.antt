@@ -10,6 +10,8 @@ use lib.Dec.{ltb, eqb}
 use lib.ListN.{length, take, length-take}
 use lib.Seq.{sets}
 use borrow.Author.Tests.{ltb-true, eqb-true}
+use Rattle.std.specs.List.{zip}
+use Rattle.std.proofs.lemmas.Slice.Zip.{length-zip}
 use Rattle.refusal.specs.declared.Refusal.TheVariants.{NoRoom}
 use Rattle.lists.specs.Filter.{all}
 use Rattle.lists.specs.Left.{fits, LeftListBy}
@@ -21,9 +23,9 @@ use Rattle.event_preamble.specs.Size.{size_for_version}
 use Rattle.event_record.specs.declared.ScanEvent.{ScanEvent}
 use Rattle.event_before_66.specs.Layout.{layout_before_66}
 use Rattle.event_before_66.proofs.Stages.{size_most}
-use Rattle.event_bytes.specs.Write.{zip, codes_given, activation_given, window_given, held_before_66, window_in, as_event, write_if_fits}
+use Rattle.event_bytes.specs.Write.{codes_given, activation_given, window_given, held_before_66, window_in, as_event, write_if_fits}
 use Rattle.event_bytes.specs.Internal.{Small}
-use Rattle.event_bytes.proofs.Bytes.{length-zip, event_size}
+use Rattle.event_bytes.proofs.Bytes.{event_size}
 
 -- each test of a record that is held
 pub record Held (version : ℕ) (e : ScanEvent) (preamble precursors : List ℕ) : Type 0 where

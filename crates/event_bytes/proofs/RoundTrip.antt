@@ -1,5 +1,7 @@
 -- L3: an event that was written reads back.
 use Rattle.std.specs.Prelude.{Result}
+use Rattle.std.specs.List.{zip}
+use Rattle.std.proofs.lemmas.Slice.Zip.{length-zip, firsts-zip, seconds-zip}
 use mathlib.Core.Path.{◌≡◌, refl, ap, sym, ◌∙◌}
 use Prim.Native.Nat.{ℕ, zero, suc, ◌+◌, ◌*◌, ◌^◌, ◌≤◌, ◌<◌}
 use native.Mathlib.Omega.{arith}
@@ -36,9 +38,9 @@ use Rattle.event_record.specs.declared.EventAndNext.{EventAndNext}
 use Rattle.event_record.specs.declared.Lists.{Lists}
 use Rattle.event_before_66.specs.Layout.{reaction, lists_before_66, layout_before_66, before_66}
 use Rattle.events.specs.Event.{layout, event, read_event}
-use Rattle.event_bytes.specs.Write.{zip, window_given, same_float, held_before_66, as_event, write_if_fits, write_before_66}
+use Rattle.event_bytes.specs.Write.{window_given, same_float, held_before_66, as_event, write_if_fits, write_before_66}
 use Rattle.event_bytes.specs.RoundTrip.{Words, Doubles, Typed}
-use Rattle.event_bytes.proofs.Bytes.{length-zip, words}
+use Rattle.event_bytes.proofs.Bytes.{words}
 use Rattle.event_bytes.proofs.Held.{Held, held}
 use Rattle.event_bytes.proofs.Codes.{codes_same, activation_same}
 
@@ -90,17 +92,6 @@ pair : {A B : Type 0} {a b : A} {x y : B} → a ≡ b → x ≡ y → ◌≡◌ 
 pair p q = rw (p, q)
 
 -- ---- a record that is held is that of its event
-firsts_zip : (ps es : List ℕ) → length ps ≡ length es → firsts (zip ps es) ≡ ps
-firsts_zip [] es h = refl
-firsts_zip (p ∷ ps) [] h = absurd (omega arith)
-firsts_zip (p ∷ ps) (e ∷ es) h = rw (firsts_zip ps es (omega arith))
-
-seconds_zip : (ps es : List ℕ) → length ps ≡ length es → seconds (zip ps es) ≡ es
-seconds_zip [] [] h = refl
-seconds_zip [] (e ∷ es) h = absurd (omega arith)
-seconds_zip (p ∷ ps) [] h = absurd (omega arith)
-seconds_zip (p ∷ ps) (e ∷ es) h = rw (seconds_zip ps es (omega arith))
-
 float_same : (x : Float) (b : ℕ) → T (ieee.fits binary64 x) → same_float x (of_bits binary64 b) ≡ true → x ≡ of_bits binary64 b
 float_same x b fit h =
     let e : to_bits binary64 x ≡ to_bits binary64 (of_bits binary64 b) = eqb-true (to_bits binary64 x) (to_bits binary64 (of_bits binary64 b)) h in
@@ -143,7 +134,7 @@ module _ (version : ℕ) (e : ScanEvent) (p q r c : List ℕ) (t : Typed e) (h :
   of_reactions = length-zip (take e.reactions q) (take e.reactions r) ∙ omega (arith, of_precursors, of_energies)
 
   pub lists_are : event_lists ev ≡ lists
-  lists_are = rw (firsts_zip (take e.reactions q) (take e.reactions r) both, seconds_zip (take e.reactions q) (take e.reactions r) both)
+  lists_are = rw (firsts-zip (take e.reactions q) (take e.reactions r) (sym both), seconds-zip (take e.reactions q) (take e.reactions r) (sym both))
 
   pub counts_are : lengths (event_lists ev) ≡ counts
   counts_are = ap lengths lists_are ∙ rw (of_preamble, of_precursors, of_energies, of_coefficients)
@@ -154,7 +145,7 @@ module _ (version : ℕ) (e : ScanEvent) (p q r c : List ℕ) (t : Typed e) (h :
       let codes : e.preamble ≡ settings (take e.preamble_len p) = codes_same _ _ (rw (le-leb _ _ w₁) at h.codes) in
       let there : fits (e.preamble_len ∷ e.reactions ∷ []) (length p ∷ length q ∷ []) ≡ true = rw (le-leb _ _ w₁, le-leb _ _ w₂) in
       let own : e.activation ≡ event_activation (take e.preamble_len p) (take e.reactions q) = activation_same _ _ (rw there at h.activation) in
-      rw (of_preamble, of_reactions, of_coefficients, firsts_zip (take e.reactions q) (take e.reactions r) both, ← codes, ← own)
+      rw (of_preamble, of_reactions, of_coefficients, firsts-zip (take e.reactions q) (take e.reactions r) (sym both), ← codes, ← own)
 
   pub accepted : (capacities : List ℕ) (next : ℕ) → fits counts capacities ≡ true → event_if_fits capacities ev next ≡ ok (record { event = e; next = next }, lists)
   unfolding event_if_fits lists_if_fit

@@ -1,5 +1,6 @@
 -- L3: an event that was read is held, and writes back to its own bytes.
 use Rattle.std.specs.Prelude.{Result}
+use Rattle.std.specs.List.{zip}
 use mathlib.Core.Path.{◌≡◌, refl, ap, ◌∙◌}
 use Prim.Native.Nat.{ℕ, zero, suc, ◌+◌, ◌*◌, ◌-◌, ◌^◌, ◌≤◌, ◌<◌}
 use native.Mathlib.Nat.{zero-mul, suc-mul, add-zero}
@@ -39,7 +40,7 @@ use Rattle.event_before_66.specs.Layout.{reaction, layout_before_66, before_66}
 use Rattle.event_before_66.proofs.Stages.{reaction_sized}
 use Rattle.events.specs.Event.{layout, event, read_event}
 use Rattle.event_bytes.specs.Codes.{same_codes, same_activation}
-use Rattle.event_bytes.specs.Write.{zip, same_float, window_given, held_before_66, window_in, as_event, write_if_fits, write_before_66}
+use Rattle.event_bytes.specs.Write.{same_float, window_given, held_before_66, window_in, as_event, write_if_fits, write_before_66}
 use Rattle.event_bytes.specs.RoundTrip.{reaction_count, after_reactions, coefficient_count, SkippedZero}
 use Rattle.event_bytes.proofs.Codes.{codes_themselves, activation_itself}
 use Rattle.event_bytes.proofs.RoundTrip.{Placed, counted_there}

@@ -1,5 +1,5 @@
 -- Writing a scan event below version 66 (document 02, L3): which records its layout holds, and the bytes of one.
-use Rattle.std.specs.Prelude.{ℕ, ◌+◌, ◌*◌, ◌^◌, Bool, true, false, cond, List, [], ◌∷◌, leb, ltb, eqb, length, take, Float}
+use Rattle.std.specs.Prelude.{ℕ, ◌+◌, ◌*◌, ◌^◌, Bool, true, false, cond, List, [], ◌∷◌, leb, ltb, eqb, length, take, zip, Float}
 use Rattle.std.specs.Float.{binary64}
 use Rattle.std.specs.Float.Ieee.{of_bits, to_bits}
 use Rattle.refusal.specs.Outcome.{Outcome}
@@ -12,7 +12,6 @@ use Rattle.event_preamble.specs.Settings.{settings}
 use Rattle.event_window.specs.declared.Window.{Window}
 use Rattle.event_window.specs.declared.Window.TheVariants.{Absent, Ends}
 use Rattle.event_window.specs.declared.FoundWindow.{FoundWindow}
-use Rattle.event_reactions.specs.Reactions.{Reaction}
 use Rattle.event_record.specs.Activation.{event_activation}
 use Rattle.event_record.specs.Event.{Event}
 use Rattle.event_record.specs.declared.ScanEvent.{ScanEvent}
@@ -53,12 +52,7 @@ held_before_66 version e preamble precursors =
     ∷ [])
 
 -- ---- what is written
--- reactions of precursors and energies
-abbrev pub zip : List ℕ → List ℕ → List Reaction
-zip [] es = []
-zip (p ∷ ps) [] = []
-zip (p ∷ ps) (e ∷ es) = (p, e) ∷ zip ps es
-
+-- the event of these lists: a reaction of each precursor and its energy
 abbrev pub event_from : FoundWindow → List ℕ → List ℕ → List ℕ → List ℕ → Event
 event_from window preamble precursors energies coefficients = record { preamble = preamble; reactions = zip precursors energies; window = window; coefficients = coefficients }
 

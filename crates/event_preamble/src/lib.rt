@@ -15,8 +15,7 @@ use reader::u8_at;
 pub fn size_for_version(version: u32) -> u64
     ensures { result ≡ size_for_version version }
 {
-    let v = version;
-    match v {
+    match version {
         0..=8 => 41,
         57 | 60 => 80,
         62 => 120,
@@ -25,7 +24,7 @@ pub fn size_for_version(version: u32) -> u64
     }
 }
 
-#[derive(Clone, Copy)]
+#[derive(Clone, Copy, PartialEq, Eq)]
 pub struct ScanEventPreamble {
     pub polarity: Option<u32>,
     pub scan_mode: Option<u32>,
@@ -110,14 +109,7 @@ pub fn ionization(bytes: &[u8]) -> Option<u32>
 fn named(activation: Activation) -> bool
     ensures { result ≡ is_named activation }
 {
-    match activation {
-        Activation::HCD => true,
-        Activation::CID => true,
-        Activation::None => false,
-        Activation::ETD => false,
-        Activation::EThcD => false,
-        Activation::Unknown(_) => false,
-    }
+    matches!(activation, Activation::HCD | Activation::CID)
 }
 
 // From the preamble alone, which cannot tell EThcD from ETD.

@@ -1,10 +1,9 @@
 -- An event is written where the one test of the lent slices says that they hold it.
 use mathlib.Core.Path.{◌≡◌, ap, ◌∙◌}
-use Prim.Native.Nat.{ℕ, ◌*◌, ◌+◌, ◌-◌, ◌≤◌}
-use native.Mathlib.Omega.{arith}
+use Prim.Native.Nat.{ℕ, ◌*◌, ◌+◌, ◌≤◌}
 use mathlib.Core.Bool.{true, false}
 use mathlib.Core.List.{List, [], ◌∷◌}
-use lib.ListN.{length, take, drop, length-map}
+use lib.ListN.{length, take, length-map}
 use lib.Seq.{take_at, take-length}
 use Rattle.refusal.specs.Outcome.{Outcome, ok, refused}
 use Rattle.lists.specs.Left.{Left, columns, pairs_if_fit, fits, lengths, firsts, over_all, LeftLists}
@@ -75,10 +74,10 @@ module _ (preamble body : List ℕ) (j : Lists) (p q e c : List ℕ) where
           let all = fits_true (counts n) (lengths lent) h in
           rw (second, length_over (firsts event.reactions) q (rw (length-precursors, ← count) all.1.0)) all.1.0
 
-      front : take (n - 0) (drop 0 q') ≡ firsts event.reactions
+      front : take n q' ≡ firsts event.reactions
       unfolding event_in over
       front =
-          let m : n - 0 ≡ length event.reactions = omega (arith, count) in
+          let m : n ≡ length event.reactions = count in
           rw (second, m) (take_at (firsts event.reactions) _ (length event.reactions) (length-precursors event.reactions))
 
       pub event_written : (r : ScanEvent)
@@ -90,7 +89,7 @@ module _ (preamble body : List ℕ) (j : Lists) (p q e c : List ℕ) where
             low_mz = j.window.low;
             high_mz = j.window.high;
             preamble = settings preamble;
-            activation = event_activation preamble (take (n - 0) (drop 0 q'));
+            activation = event_activation preamble (take n q');
           }
           → LeftLists (λ c. event_if_fits c event next) lent (ok (record { event = r; next = next })) (p' ∷ q' ∷ e' ∷ c' ∷ [])
       unfolding event_if_fits describe event_in

@@ -1,7 +1,7 @@
 // Writes a scan event that was found to lent slices, whatever its layout.
 #![tactic(auto)]
 
-ghost use Rattle.std.specs.Prelude.{◌≡◌, true, [], ◌∷◌, min, length};
+ghost use Rattle.std.specs.Prelude.{◌≡◌, true, [], ◌∷◌, length};
 ghost use Rattle.refusal.specs.Number.{outcome_of};
 ghost use Rattle.lists.specs.Left.{fits, lengths, over_all, LeftLists};
 ghost use Rattle.event_reactions.specs.Reactions.{in_source};
@@ -12,7 +12,7 @@ use event_preamble::decode;
 use event_reactions::{count_reactions, write_reactions};
 use event_record::{EventAndNext, Lists, Places, ScanEvent, activation};
 use lists::fits;
-use reader::{copy, copy_bytes, saturating_add};
+use reader::{bytes, copy, copy_bytes, saturating_add};
 use refusal::Refusal;
 
 // The lists of an event, over the fronts of slices that hold them.
@@ -30,9 +30,8 @@ fn write_lists(
     ensures { (preamble.new ∷ precursors.new ∷ energies.new ∷ coefficients.new ∷ [])
         ≡ over_all (event_lists (event_in bytes.now body.now j)) (preamble.old ∷ precursors.old ∷ energies.old ∷ coefficients.old ∷ []) }
 {
-    let reactions = j.reactions;
     let _ = copy_bytes(bytes, 0, bytes.len() as u64, preamble);
-    let _ = write_reactions(body, reactions, precursors, energies);
+    let _ = write_reactions(body, j.reactions, precursors, energies);
     let _ = copy::<u64>(body, j.coefficients_at, 8, j.coefficients, coefficients);
 }
 
@@ -51,11 +50,8 @@ fn write_if_fits(
         (preamble.old ∷ precursors.old ∷ energies.old ∷ coefficients.old ∷ [])
         (outcome_of result) (preamble.new ∷ precursors.new ∷ energies.new ∷ coefficients.new ∷ []) }
 {
-    let reactions = j.reactions;
-    let found = j.window;
-    let window = found.window;
     let len = bytes.len() as u64;
-    let count = count_reactions(body, reactions);
+    let count = count_reactions(body, j.reactions);
     if fits(
         [len, count, count, j.coefficients],
         [
@@ -66,27 +62,19 @@ fn write_if_fits(
         ],
     ) {
         write_lists(bytes, body, j, preamble, precursors, energies, coefficients);
-        let end = count as usize;
         let event = ScanEvent {
             preamble_len: len,
             reactions: count,
             coefficients: j.coefficients,
-            window,
-            low_mz: found.low,
-            high_mz: found.high,
+            window: j.window.window,
+            low_mz: j.window.low,
+            high_mz: j.window.high,
             preamble: decode(bytes),
-            activation: activation(bytes, &precursors[0..end]),
+            activation: activation(bytes, &precursors[..count as usize]),
         };
         return Ok(EventAndNext { event, next });
     }
     Err(Refusal::NoRoom)
-}
-
-// A place of the run, or its end where the place is after it.
-fn within(run: &[u8], place: u64) -> usize
-    ensures { result ≡ min place (length run.now) }
-{
-    place.min(run.len() as u64) as usize
 }
 
 // The event at these places of the run, where the slices hold it. Bytes after the run's end are none of the preamble or the
@@ -103,15 +91,11 @@ pub fn write_event(
         (preamble.old ∷ precursors.old ∷ energies.old ∷ coefficients.old ∷ [])
         (outcome_of result) (preamble.new ∷ precursors.new ∷ energies.new ∷ coefficients.new ∷ []) }
 {
-    let from = within(run, p.preamble);
     let body = saturating_add(p.preamble, p.preamble_len);
-    let middle = within(run, body);
-    let end = within(run, saturating_add(body, p.next.saturating_sub(body)));
-    let lists = p.lists;
     write_if_fits(
-        &run[from..middle],
-        &run[middle..end],
-        lists,
+        bytes(run, p.preamble, p.preamble_len),
+        bytes(run, body, p.next.saturating_sub(body)),
+        p.lists,
         p.next,
         preamble,
         precursors,
