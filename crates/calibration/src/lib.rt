@@ -126,14 +126,11 @@ fn write_pairs(
     ensures mz_after { mz.new ≡ over (each (mz_on bins conversion) n) mz.old }
     ensures intensity_after { intensity.new ≡ over (each (λ k. f32_at run.now (at + k * 4)) n) intensity.old }
 {
-    let count = n as usize;
     let mut place = at;
-    let mut i: usize = 0;
-    while i < count {
+    for i in 0..n as usize {
         mz[i] = bin_to_mz(bins, conversion, i as u64);
         intensity[i] = widened(u32_at(run, place));
         place = saturating_add(place, 4);
-        i = i + 1;
     }
 }
 

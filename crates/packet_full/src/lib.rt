@@ -5,7 +5,7 @@ ghost use Rattle.std.specs.Prelude.{◌≡◌, [], ◌∷◌};
 ghost use Rattle.lists.specs.Left.{fits, over_all, LeftLists};
 ghost use Rattle.packet_record.specs.Packet.{with_nodes};
 ghost use Rattle.packet_full.specs.Full.{chunk_lists, read_packet};
-ghost use Rattle.packet_full.specs.Internal.{ChunksThere, HasChunks, chunk_list, found_chunks, chunk_count, point_count, chunk_sizes};
+ghost use Rattle.packet_full.specs.Internal.{ChunksThere, HasChunks, chunk_list, found_chunks, chunk_sizes};
 
 use lists::fits;
 use packet_places::find_places;
@@ -28,13 +28,11 @@ fn write_chunks(
     ensures { bins.new ∷ counts.new ∷ fudges.new ∷ signal.new ∷ []
         ≡ over_all (chunk_lists (chunk_list p run.now)) (bins.old ∷ counts.old ∷ fudges.old ∷ signal.old ∷ []) }
 {
-    let count = p.peak_count as usize;
     let fudged = p.fudged;
     let head = head_size(fudged);
     let mut at = p.chunks_at;
     let mut written: usize = 0;
-    let mut i: usize = 0;
-    while i < count {
+    for i in 0..p.peak_count as usize {
         let n = u32_at(run, at + 4);
         bins[i] = u32_at(run, at);
         counts[i] = n;
@@ -42,30 +40,6 @@ fn write_chunks(
         let _ = copy::<u32>(run, at + head, 4, n as u64, &mut signal[written..]);
         written = written + n as usize;
         at = at + head + (n as u64) * 4;
-        i = i + 1;
-    }
-}
-
-// How many chunks a profile has, and how many values they hold together.
-#[derive(Clone, Copy)]
-struct ChunkCounts {
-    chunks: u64,
-    points: u64,
-}
-
-fn chunk_counts(profile: Option<Profile>) -> ChunkCounts
-    ensures chunks_value { result.chunks ≡ chunk_count profile }
-    ensures points_value { result.points ≡ point_count profile }
-{
-    match profile {
-        None => ChunkCounts {
-            chunks: 0,
-            points: 0,
-        },
-        Some(p) => ChunkCounts {
-            chunks: p.peak_count as u64,
-            points: p.points,
-        },
     }
 }
 
@@ -79,9 +53,8 @@ fn chunks_fit(
 ) -> bool
     ensures { result ≡ fits (chunk_sizes profile) (bins ∷ counts ∷ fudges ∷ signal ∷ []) }
 {
-    let wanted = chunk_counts(profile);
-    let n = wanted.chunks;
-    fits([n, n, n, wanted.points], [bins, counts, fudges, signal])
+    let (n, points) = profile.map_or((0, 0), |p| (p.peak_count as u64, p.points));
+    fits([n, n, n, points], [bins, counts, fudges, signal])
 }
 
 // The lists of a profile's chunks, if there is one.

@@ -92,12 +92,10 @@ fn pass_chunks(run: &[u8], start: u64, fudged: bool, count: u32) -> Result<Chunk
 {
     let mut at = start;
     let mut points: u64 = 0;
-    let mut i: u32 = 0;
-    while i < count {
+    for _ in 0..count {
         let signal = signal_at(run, at, fudged)?;
         points = points + signal.points;
         at = signal.next;
-        i = i + 1;
     }
     Ok(ChunkList { points, next: at })
 }

@@ -29,14 +29,12 @@ fn count_pairs(run: &[u8], profile: Profile) -> u64
 {
     let mut at = profile.chunks_at;
     let mut pairs: u64 = 0;
-    let mut passed: u32 = 0;
-    while passed < profile.peak_count {
+    for _ in 0..profile.peak_count {
         let Ok(found) = signal_at(run, at, profile.fudged) else {
             return pairs;
         };
         pairs = pairs + found.points;
         at = found.next;
-        passed = passed + 1;
     }
     pairs
 }
@@ -54,15 +52,19 @@ fn write_pairs(
     ensures mz_after { mz.new ≡ over (firsts (profile_pairs profile coefficients.now run.now)) mz.old }
     ensures intensity_after { intensity.new ≡ over (seconds (profile_pairs profile coefficients.now run.now)) intensity.old }
 {
-    let bins = Bins {
-        first_value: profile.first_value,
-        step: profile.step,
-    };
-    let mut at = profile.chunks_at;
+    let Profile {
+        first_value,
+        step,
+        peak_count,
+        fudged,
+        chunks_at,
+        ..
+    } = profile;
+    let bins = Bins { first_value, step };
+    let mut at = chunks_at;
     let mut n: usize = 0;
-    let mut i: u32 = 0;
-    while i < profile.peak_count {
-        let Ok(signal) = signal_at(run, at, profile.fudged) else {
+    for _ in 0..peak_count {
+        let Ok(signal) = signal_at(run, at, fudged) else {
             return;
         };
         let _ = write_chunk(
@@ -70,7 +72,7 @@ fn write_pairs(
             signal.at,
             signal.points,
             u32_at(run, at),
-            fudge_at(run, at, profile.fudged),
+            fudge_at(run, at, fudged),
             bins,
             coefficients,
             &mut mz[n..],
@@ -78,7 +80,6 @@ fn write_pairs(
         );
         n = n + signal.points as usize;
         at = signal.next;
-        i = i + 1;
     }
 }
 

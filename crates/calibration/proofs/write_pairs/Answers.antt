@@ -11,12 +11,6 @@ use Rattle.calibration.proofs.write_pairs.Goals as goal
 pub loop-i-init : goal.loop-i-init
 loop-i-init c = (fill_none _ _ _, fill_none _ _ _, omega arith)
 
-pub bounds-mz-i : goal.bounds-mz-i
-bounds-mz-i c = omega (arith, c.loop-i.invariant.0.same, c.requires.n_in_bounds)
-
-pub bounds-intensity-i : goal.bounds-intensity-i
-bounds-intensity-i c = omega (arith, c.loop-i.invariant.1.same, c.requires.n_in_bounds_2)
-
 pub loop-i-preserved : goal.loop-i-preserved
 loop-i-preserved c =
     let l = c.loop-i in
@@ -26,14 +20,3 @@ loop-i-preserved c =
       fill_more _ _ _ _ _ _ l.invariant.1 (c.widened.ensures ∙ ap (of_bits binary32) bits) (omega arith) (omega (arith, c.requires.n_in_bounds_2)),
       c.saturating_add-place.ensures ∙ next_place a.at l.i 4 l.place l.invariant.2,
     )
-
-pub shape_of-mz : goal.shape_of-mz
-shape_of-mz c = c.loop-i.invariant.0.same
-
-pub shape_of-intensity : goal.shape_of-intensity
-shape_of-intensity c = c.loop-i.invariant.1.same
-
-pub returns : goal.returns
-returns c =
-    let l = c.loop-i.invariant in
-    record { mz_after = fill_done _ _ _ _ _ l.0 c.loop-i-test.false; intensity_after = fill_done _ _ _ _ _ l.1 c.loop-i-test.false }

@@ -7,7 +7,4 @@ use Rattle.calibration.specs.Internal.{mz_on}
 use Rattle.calibration.proofs.write_pairs.Given as goal
 
 abbrev pub invariant-loop-i : goal.invariant-loop-i
-invariant-loop-i l = Filling (mz_on l.bins l.conversion) l.count l.initial.mz l.mz l.i × Filling (λ k. f32_at l.run (l.at + k * 4)) l.count l.initial.intensity l.intensity l.i × (l.place ≡ min (l.at + l.i * 4) (2 ^ 64 - 1))
-
-abbrev pub decreases-loop-i : goal.decreases-loop-i
-decreases-loop-i l = l.count - l.i
+invariant-loop-i l = Filling (mz_on l.bins l.conversion) l.n l.initial.mz l.mz l.i × Filling (λ k. f32_at l.run (l.at + k * 4)) l.n l.initial.intensity l.intensity l.i × (l.place ≡ min (l.at + l.i * 4) (2 ^ 64 - 1))

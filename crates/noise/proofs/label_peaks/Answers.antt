@@ -1,8 +1,6 @@
 -- `noise::label_peaks` meets its contract. The invariant: the labels of the first i masses are written.
 use mathlib.Core.Path.{◌≡◌, ap}
 use mathlib.Core.Bool.{true}
-use Prim.Native.Nat.{◌≤◌}
-use lib.ListN.{length}
 use Rattle.lists.proofs.Laws.{fill_none, fill_more, fill_done}
 use Rattle.noise.specs.Nodes.{nodes_of}
 use Rattle.noise.proofs.Labelling.{room_for, labels_room, labels_refused, labels_written}
@@ -16,14 +14,6 @@ has_room : (c : Else-not-holds)
 has_room c =
     rw (← c.holds.ensures, ← c.holds-2.ensures, ← c.holds-3.ensures) c.if-not-holds.false
 
-room : (c : Else-not-holds)
-    → let a = c.args in
-    let n = length a.mz.now in
-    (n ≤ length a.flags.now) × (n ≤ length a.noise.now) × (n ≤ length a.baseline.now)
-room c =
-    let a = c.args in
-    labels_room a.mz.now (nodes_of a.nodes.now) a.flags.now a.noise.now a.baseline.now (has_room c)
-
 pub returns-then-not-holds : goal.returns-then-not-holds
 returns-then-not-holds c =
     labels_refused _ _ _ _ _ (rw (← c.holds.ensures, ← c.holds-2.ensures, ← c.holds-3.ensures) c.if-not-holds.true)
@@ -31,33 +21,16 @@ returns-then-not-holds c =
 pub loop-i-init : goal.loop-i-init
 loop-i-init c = (fill_none _ _ _, fill_none _ _ _, fill_none _ _ _)
 
-pub bounds-flags-i : goal.bounds-flags-i
-bounds-flags-i c = let r = room (goal.at.bounds-flags-i c).Else-not-holds in search rules
-
-pub bounds-noise-i : goal.bounds-noise-i
-bounds-noise-i c = let r = room (goal.at.bounds-noise-i c).Else-not-holds in search rules
-
-pub bounds-baseline-i : goal.bounds-baseline-i
-bounds-baseline-i c = let r = room (goal.at.bounds-baseline-i c).Else-not-holds in search rules
-
 pub loop-i-preserved : goal.loop-i-preserved
 loop-i-preserved c =
     let l = c.loop-i in
-    let r = room (goal.at.loop-i-preserved c).Else-not-holds in
+    let a = c.args in
+    let r = labels_room a.mz.now (nodes_of a.nodes.now) a.flags.now a.noise.now a.baseline.now (has_room (goal.at.loop-i-preserved c).Else-not-holds) in
     let label = c.label_at-label.ensures in (
       fill_more _ _ _ _ _ _ l.invariant.0 (ap (λ k. k.flag) label) (search rules) (search rules),
       fill_more _ _ _ _ _ _ l.invariant.1 (ap (λ k. k.noise) label) (search rules) (search rules),
       fill_more _ _ _ _ _ _ l.invariant.2 (ap (λ k. k.baseline) label) (search rules) (search rules),
     )
-
-pub shape_of-flags : goal.shape_of-flags
-shape_of-flags c = c.loop-i.invariant.0.same
-
-pub shape_of-noise : goal.shape_of-noise
-shape_of-noise c = c.loop-i.invariant.1.same
-
-pub shape_of-baseline : goal.shape_of-baseline
-shape_of-baseline c = c.loop-i.invariant.2.same
 
 pub returns : goal.returns
 returns c =

@@ -1,5 +1,8 @@
 -- `noise::noise_along` meets its contract. The invariant: what is left to work out is `answer_from` at the k-th node.
-use mathlib.Core.Path.{sym, ◌∙◌}
+use mathlib.Core.Path.{◌≡◌, sym, ◌∙◌}
+use Prim.Native.Nat.{◌/◌}
+use native.Mathlib.Omega.{arith}
+use lib.ListN.{length}
 use borrow.Author.Rules.{rules}
 use Rattle.noise.proofs.Walk.{no_nodes, next_reaches, next_passed, all_passed}
 use Rattle.noise.proofs.noise_along.Goals as goal
@@ -20,4 +23,6 @@ loop-k-preserved c =
 
 pub returns : goal.returns
 returns c =
-    c.stored_at-2.ensures ∙ sym (c.loop-k.invariant.2 ∙ all_passed _ _ _ c.loop-k.k c.loop-k-test.false)
+    let end : c.loop-k.k ≡ length c.args.nodes.now / 12 = omega arith in
+    let n = length c.args.nodes.now / 12 in
+    c.stored_at-2.ensures ∙ sym (rw end at c.loop-k.invariant.2 ∙ all_passed c.args.x c.args.nodes.now n n (omega arith))

@@ -15,15 +15,6 @@ loop-i-init c =
 pub overflow_add-at : goal.overflow_add-at
 overflow_add-at c = omega (arith, head_there c.loop-i.invariant (omega (arith, c.loop-i-test.true)) _ refl, c.head_size-head.ensures)
 
-pub bounds-bins-i : goal.bounds-bins-i
-bounds-bins-i c = omega (arith, c.loop-i.invariant.bins.same, c.loop-i.invariant.in_bins, c.loop-i-test.true)
-
-pub bounds-counts-i : goal.bounds-counts-i
-bounds-counts-i c = omega (arith, c.loop-i.invariant.counts.same, c.loop-i.invariant.in_counts, c.loop-i-test.true)
-
-pub bounds-fudges-i : goal.bounds-fudges-i
-bounds-fudges-i c = omega (arith, c.loop-i.invariant.fudges.same, c.loop-i.invariant.in_fudges, c.loop-i-test.true)
-
 pub overflow_add-at-in-loop-i : goal.overflow_add-at-in-loop-i
 overflow_add-at-in-loop-i c = omega (arith, head_there c.loop-i.invariant (omega (arith, c.loop-i-test.true)) _ refl, c.head_size-head.ensures)
 
@@ -60,18 +51,6 @@ overflow_add-at-in-loop-i-3 c =
 pub loop-i-preserved : goal.loop-i-preserved
 loop-i-preserved c =
     turn_by c.loop-i.invariant (omega (arith, c.loop-i-test.true)) c.u32_at-n.result c.u32_at-n.ensures c.u32_at.ensures refl c.fudge_at.ensures c.head_size-head.ensures.value _ c.copy.ensures.stands refl
-
-pub shape_of-bins : goal.shape_of-bins
-shape_of-bins c = c.loop-i.invariant.bins.same
-
-pub shape_of-counts : goal.shape_of-counts
-shape_of-counts c = c.loop-i.invariant.counts.same
-
-pub shape_of-fudges : goal.shape_of-fudges
-shape_of-fudges c = c.loop-i.invariant.fudges.same
-
-pub shape_of-signal : goal.shape_of-signal
-shape_of-signal c = c.loop-i.invariant.same
 
 pub returns : goal.returns
 unfolding chunk_list

@@ -12,37 +12,37 @@ use borrow.Author.Rules.{rules}
 use Rattle.packet_profile.proofs.pass_chunks.Goals as goal
 use Rattle.packet_profile.proofs.pass_chunks.Goals.{In_ok-signal}
 
-pub loop-i-init : goal.loop-i-init
-loop-i-init c = (search rules, search rules, walk_none points_of (chunk _) _ _ _)
+pub loop-init : goal.loop-init
+loop-init c = (search rules, search rules, walk_none points_of (chunk _) _ _ _)
 
 pub returns-in_err-signal : goal.returns-in_err-signal
 returns-in_err-signal c =
     let a = c.args in
-    let l = c.loop-i in
+    let l = c.loop in
     let p = err_from_is_err_and c.from_residual.result c.from_residual.ensures.1 in
     let e = sym (ap outcome_of c.in_err-signal.was) ∙ c.signal_at.ensures in
     rw (p.1, p.2, missing_is a.fudged a.run.now l.at _ e)
-    (list_short a.fudged a.count a.run.now a.start l.i l.at l.points (omega arith) l.invariant.2 (missing a.fudged a.run.now l.at e))
+    (list_short a.fudged a.count a.run.now a.start l.counter l.at l.points (omega arith) l.invariant.2 (missing a.fudged a.run.now l.at e))
 
 -- the chunk of this turn is there
-chunk_there : (c : In_ok-signal) → let a = c.args in There a.fudged a.run.now c.loop-i.at c.in_ok-signal.signal
+chunk_there : (c : In_ok-signal) → let a = c.args in There a.fudged a.run.now c.loop.at c.in_ok-signal.signal
 chunk_there c = there _ _ _ (sym (ap outcome_of c.in_ok-signal.was) ∙ c.signal_at.ensures)
 
 pub overflow_add-points : goal.overflow_add-points
-overflow_add-points c = omega (arith, c.loop-i.invariant.1, (chunk_there (goal.at.overflow_add-points c).In_ok-signal).starts, (chunk_there (goal.at.overflow_add-points c).In_ok-signal).ends)
+overflow_add-points c = omega (arith, c.loop.invariant.1, (chunk_there (goal.at.overflow_add-points c).In_ok-signal).starts, (chunk_there (goal.at.overflow_add-points c).In_ok-signal).ends)
 
-pub loop-i-preserved : goal.loop-i-preserved
-loop-i-preserved c =
+pub loop-preserved : goal.loop-preserved
+loop-preserved c =
     let a = c.args in
-    let l = c.loop-i in
-    let t = chunk_there (goal.at.loop-i-preserved c).In_ok-signal in
+    let l = c.loop in
+    let t = chunk_there (goal.at.loop-preserved c).In_ok-signal in
     let v = c.in_ok-signal.signal in
-    let more = walk_more points_of (chunk a.fudged) a.run.now a.start a.count l.i l.at l.points (omega arith) l.invariant.2 t.here in
+    let more = walk_more points_of (chunk a.fudged) a.run.now a.start a.count l.counter l.at l.points (omega arith) l.invariant.2 t.here in
     (search rules, omega (arith, l.invariant.1, t.starts, t.ends), rw (points_at a.fudged a.run.now l.at v.points) at more)
 
 pub returns : goal.returns
 returns c =
     let a = c.args in
-    let l = c.loop-i in
-    let all : l.i ≡ a.count = omega arith in
+    let l = c.loop in
+    let all : l.counter ≡ a.count = omega arith in
     list_all a.fudged a.count a.run.now a.start (rw all at l.invariant.2)

@@ -7,30 +7,30 @@ use Rattle.pairs.proofs.Counting.{counting_first, counting_more, counting_short,
 use Rattle.pairs.proofs.count_pairs.Goals as goal
 use Rattle.pairs.proofs.count_pairs.Goals.{In-Ok}
 
-pub loop-passed-init : goal.loop-passed-init
-loop-passed-init c = counting_first c.args.profile c.args.run.now
+pub loop-init : goal.loop-init
+loop-init c = counting_first c.args.profile c.args.run.now
 
 pub returns-in_default : goal.returns-in_default
 returns-in_default c =
     let a = c.args in
-    let l = c.loop-passed in
+    let l = c.loop in
     counting_short a.profile a.run.now l.invariant (missing a.profile.fudged a.run.now l.at (sym (ap outcome_of c.in_default.is) ∙ c.signal_at.ensures))
 
 -- the chunk of this turn is there
-chunk_there : (c : In-Ok) → let a = c.args in There a.profile.fudged a.run.now c.loop-passed.at c.in-Ok.found
+chunk_there : (c : In-Ok) → let a = c.args in There a.profile.fudged a.run.now c.loop.at c.in-Ok.found
 chunk_there c = there _ _ _ c.in-Ok.ensures
 
 pub overflow_add-pairs : goal.overflow_add-pairs
-overflow_add-pairs c = omega (arith, c.loop-passed.invariant.fits, (chunk_there (goal.at.overflow_add-pairs c).In-Ok).starts, (chunk_there (goal.at.overflow_add-pairs c).In-Ok).ends)
+overflow_add-pairs c = omega (arith, c.loop.invariant.fits, (chunk_there (goal.at.overflow_add-pairs c).In-Ok).starts, (chunk_there (goal.at.overflow_add-pairs c).In-Ok).ends)
 
-pub loop-passed-preserved : goal.loop-passed-preserved
-loop-passed-preserved c =
+pub loop-preserved : goal.loop-preserved
+loop-preserved c =
     let a = c.args in
-    let l = c.loop-passed in
-    counting_more a.profile a.run.now l.invariant (omega arith) (chunk_there (goal.at.loop-passed-preserved c).In-Ok)
+    let l = c.loop in
+    counting_more a.profile a.run.now l.invariant (omega arith) (chunk_there (goal.at.loop-preserved c).In-Ok)
 
 pub returns : goal.returns
 returns c =
     let a = c.args in
-    let l = c.loop-passed in
+    let l = c.loop in
     counting_all a.profile a.run.now l.invariant (omega (arith, l.invariant.passed))

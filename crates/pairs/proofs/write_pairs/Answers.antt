@@ -7,64 +7,61 @@ use Rattle.pairs.proofs.Writing.{writing_first, writing_more, writing_short, wri
 use Rattle.pairs.proofs.write_pairs.Goals as goal
 use Rattle.pairs.proofs.write_pairs.Goals.{In-Ok}
 
-pub loop-i-init : goal.loop-i-init
-loop-i-init c =
+pub loop-init : goal.loop-init
+loop-init c =
     let a = c.args in
     writing_first a.profile a.coefficients.now a.run.now a.mz.now a.intensity.now
 
 pub shape_of-mz-in_default : goal.shape_of-mz-in_default
-shape_of-mz-in_default c = mz_size _ _ _ _ _ c.requires.run_in_bounds c.requires.run_in_bounds_2 c.loop-i.invariant
+shape_of-mz-in_default c = mz_size _ _ _ _ _ c.requires.run_in_bounds c.requires.run_in_bounds_2 c.loop.invariant
 
 pub shape_of-intensity-in_default : goal.shape_of-intensity-in_default
-shape_of-intensity-in_default c = intensity_size _ _ _ _ _ c.requires.run_in_bounds c.requires.run_in_bounds_2 c.loop-i.invariant
+shape_of-intensity-in_default c = intensity_size _ _ _ _ _ c.requires.run_in_bounds c.requires.run_in_bounds_2 c.loop.invariant
 
 pub returns-in_default : goal.returns-in_default
 returns-in_default c =
     let a = c.args in
-    let l = c.loop-i in
+    let l = c.loop in
     let all = writing_short _ _ _ _ _ c.requires.run_in_bounds c.requires.run_in_bounds_2 l.invariant (missing a.profile.fudged a.run.now l.at (sym (ap outcome_of c.in_default.is) ∙ c.signal_at.ensures)) in
     record { mz_after = all.0; intensity_after = all.1 }
 
 -- the chunk of this turn is there
-chunk_there : (c : In-Ok) → There c.args.profile.fudged c.args.run.now c.loop-i.at c.in-Ok.signal
+chunk_there : (c : In-Ok) → There c.args.profile.fudged c.args.run.now c.loop.at c.in-Ok.signal
 chunk_there c = there _ _ _ c.in-Ok.ensures
 
 pub offset_bounds-mz-n : goal.offset_bounds-mz-n
-offset_bounds-mz-n c = omega (arith, mz_within _ _ _ _ _ c.requires.run_in_bounds c.requires.run_in_bounds_2 c.loop-i.invariant, mz_size _ _ _ _ _ c.requires.run_in_bounds c.requires.run_in_bounds_2 c.loop-i.invariant)
+offset_bounds-mz-n c = omega (arith, mz_within _ _ _ _ _ c.requires.run_in_bounds c.requires.run_in_bounds_2 c.loop.invariant, mz_size _ _ _ _ _ c.requires.run_in_bounds c.requires.run_in_bounds_2 c.loop.invariant)
 
 pub slice_bounds-write_chunk-count : goal.slice_bounds-write_chunk-count
-slice_bounds-write_chunk-count c = omega (arith, mz_within _ _ _ _ _ c.requires.run_in_bounds c.requires.run_in_bounds_2 c.loop-i.invariant)
+slice_bounds-write_chunk-count c = omega (arith, mz_within _ _ _ _ _ c.requires.run_in_bounds c.requires.run_in_bounds_2 c.loop.invariant)
 
 pub slice_bounds-write_chunk-start : goal.slice_bounds-write_chunk-start
-slice_bounds-write_chunk-start c = omega (arith, mz_within _ _ _ _ _ c.requires.run_in_bounds c.requires.run_in_bounds_2 c.loop-i.invariant)
+slice_bounds-write_chunk-start c = omega (arith, mz_within _ _ _ _ _ c.requires.run_in_bounds c.requires.run_in_bounds_2 c.loop.invariant)
 
 pub offset_bounds-intensity-n : goal.offset_bounds-intensity-n
-offset_bounds-intensity-n c = omega (arith, mz_within _ _ _ _ _ c.requires.run_in_bounds c.requires.run_in_bounds_2 c.loop-i.invariant, mz_size _ _ _ _ _ c.requires.run_in_bounds c.requires.run_in_bounds_2 c.loop-i.invariant)
+offset_bounds-intensity-n c = omega (arith, mz_within _ _ _ _ _ c.requires.run_in_bounds c.requires.run_in_bounds_2 c.loop.invariant, mz_size _ _ _ _ _ c.requires.run_in_bounds c.requires.run_in_bounds_2 c.loop.invariant)
 
-pub slice_bounds-write_chunk-count-in-loop-i : goal.slice_bounds-write_chunk-count-in-loop-i
-slice_bounds-write_chunk-count-in-loop-i c = omega (arith, intensity_within _ _ _ _ _ c.requires.run_in_bounds c.requires.run_in_bounds_2 c.loop-i.invariant)
+pub slice_bounds-write_chunk-count-in-loop : goal.slice_bounds-write_chunk-count-in-loop
+slice_bounds-write_chunk-count-in-loop c = omega (arith, intensity_within _ _ _ _ _ c.requires.run_in_bounds c.requires.run_in_bounds_2 c.loop.invariant)
 
-pub slice_bounds-write_chunk-start-in-loop-i : goal.slice_bounds-write_chunk-start-in-loop-i
-slice_bounds-write_chunk-start-in-loop-i c = omega (arith, intensity_within _ _ _ _ _ c.requires.run_in_bounds c.requires.run_in_bounds_2 c.loop-i.invariant)
+pub slice_bounds-write_chunk-start-in-loop : goal.slice_bounds-write_chunk-start-in-loop
+slice_bounds-write_chunk-start-in-loop c = omega (arith, intensity_within _ _ _ _ _ c.requires.run_in_bounds c.requires.run_in_bounds_2 c.loop.invariant)
 
 pub overflow_add-n : goal.overflow_add-n
-overflow_add-n c = omega (arith, with_chunk _ _ _ _ _ c.requires.run_in_bounds c.requires.run_in_bounds_2 c.loop-i.invariant (omega (arith, c.loop-i-test.true)) (chunk_there (goal.at.overflow_add-n c).In-Ok), c.requires.run_in_bounds)
+overflow_add-n c = omega (arith, with_chunk _ _ _ _ _ c.requires.run_in_bounds c.requires.run_in_bounds_2 c.loop.invariant (omega (arith, c.loop-test.true)) (chunk_there (goal.at.overflow_add-n c).In-Ok), c.requires.run_in_bounds)
 
-pub overflow_add-i : goal.overflow_add-i
-overflow_add-i c = omega (arith, c.loop-i-test.true)
-
-pub loop-i-preserved : goal.loop-i-preserved
-loop-i-preserved c =
-    writing_more _ _ _ _ _ c.requires.run_in_bounds c.requires.run_in_bounds_2 c.loop-i.invariant (omega (arith, c.loop-i-test.true)) (chunk_there (goal.at.loop-i-preserved c).In-Ok) _ _
+pub loop-preserved : goal.loop-preserved
+loop-preserved c =
+    writing_more _ _ _ _ _ c.requires.run_in_bounds c.requires.run_in_bounds_2 c.loop.invariant (omega (arith, c.loop-test.true)) (chunk_there (goal.at.loop-preserved c).In-Ok) _ _
     c.u32_at.ensures c.fudge_at.ensures c.write_chunk.result _ _ _ _ refl refl c.write_chunk.ensures
 
 pub shape_of-mz : goal.shape_of-mz
-shape_of-mz c = mz_size _ _ _ _ _ c.requires.run_in_bounds c.requires.run_in_bounds_2 c.loop-i.invariant
+shape_of-mz c = mz_size _ _ _ _ _ c.requires.run_in_bounds c.requires.run_in_bounds_2 c.loop.invariant
 
 pub shape_of-intensity : goal.shape_of-intensity
-shape_of-intensity c = intensity_size _ _ _ _ _ c.requires.run_in_bounds c.requires.run_in_bounds_2 c.loop-i.invariant
+shape_of-intensity c = intensity_size _ _ _ _ _ c.requires.run_in_bounds c.requires.run_in_bounds_2 c.loop.invariant
 
 pub returns : goal.returns
 returns c =
-    let all = writing_all _ _ _ _ _ c.requires.run_in_bounds c.requires.run_in_bounds_2 c.loop-i.invariant (omega (arith, c.loop-i.invariant.passed)) in
+    let all = writing_all _ _ _ _ _ c.requires.run_in_bounds c.requires.run_in_bounds_2 c.loop.invariant (omega (arith, c.loop.invariant.passed)) in
     record { mz_after = all.0; intensity_after = all.1 }
