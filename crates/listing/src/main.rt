@@ -51,10 +51,8 @@ fn print_scans<W: Write>(to: &mut W, tray: &[u8], h: TrayHeader)
     requires { ok h ≡ read_tray_header tray.now }
 {
     let mut at = h.events as u64;
-    let mut k: u32 = 0;
-    while k < h.scans {
+    for k in 0..h.scans {
         at = print_scan(to, tray, h, k, at);
-        k = k + 1;
     }
 }
 

@@ -161,10 +161,8 @@ fn append_scan(
 {
     let pairs = pair_count(mz, intensity);
     let mut at = append_three(b'S', number as u64, pairs as u64, coefficients, out);
-    let mut i: usize = 0;
-    while i < pairs {
+    for i in 0..pairs {
         at = append_pair(mz[i], intensity[i], at, out);
-        i = i + 1;
     }
     at
 }
@@ -185,13 +183,11 @@ fn scan_fits(number: u32, coefficients: u64, mz: &[f64], intensity: &[f64], room
     let pairs = pair_count(mz, intensity);
     let mut text = [0u8; 64];
     let mut size = append_three(b'S', number as u64, pairs as u64, coefficients, &mut text);
-    let mut measured: usize = 0;
-    while measured < pairs {
+    for &m in &mz[..pairs] {
         if size > room {
             return false;
         }
-        size = size + mass_size(mz[measured]) + 18;
-        measured = measured + 1;
+        size = size + mass_size(m) + 18;
     }
     size <= room
 }

@@ -26,14 +26,12 @@ pub fn keep_listed(format: ScanDataFormat, mz: &mut [f64], intensity: &mut [f64]
 {
     let pairs = mz.len().min(intensity.len());
     let mut kept: usize = 0;
-    let mut i: usize = 0;
-    while i < pairs {
+    for i in 0..pairs {
         if is_listed(format, mz[i]) {
             mz[kept] = mz[i];
             intensity[kept] = intensity[i];
             kept = kept + 1;
         }
-        i = i + 1;
     }
     kept
 }

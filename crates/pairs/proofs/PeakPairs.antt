@@ -7,7 +7,7 @@ use lib.Ieee.{binary32, binary64, of_bits, Float}
 use lib.ListN.{length, length-map}
 use Rattle.lists.proofs.Laws.{each_same, map_each}
 use Rattle.parser.specs.Parser.{word_at, f64_at, f32_at}
-use Rattle.peaks.specs.Peaks.{Peak, peak_at, peaks_at, value_at, row_values, row_peaks}
+use Rattle.peaks.specs.Peaks.{peak_at, peaks_at, value_at, row_values, row_peaks}
 use Rattle.peaks.specs.declared.PeakRow.{PeakRow}
 use Rattle.peaks.proofs.Columns.{length-peaks, widened_same}
 use Rattle.pairs.specs.Pairs.{Pair, peak_pairs}

@@ -3,7 +3,7 @@
 use Rattle.std.proofs.Common.{◌+◌, ◌*◌, ap, ◌∙◌, arith}
 use lib.Ieee.{binary32, of_bits}
 use Rattle.parser.specs.Parser.{bytes, little_endian}
-use Rattle.lists.proofs.Laws.{fill_none, fill_more, fill_done}
+use Rattle.lists.proofs.Laws.{fill_none, fill_more}
 use Rattle.reader.proofs.Words.{le_saturated}
 use Rattle.reader.proofs.Copies.{next_place}
 use Rattle.calibration.proofs.write_pairs.Goals as goal

@@ -1,8 +1,8 @@
 -- The first event stands where the header says.
-use Rattle.std.proofs.Common.{arith, refl}
+use Rattle.std.proofs.Common.{refl}
 use Rattle.listing_tray.specs.Internal.{walked_place}
 use Rattle.listing.proofs.print_scans.Goals as goal
 
 pub loop-k-init : goal.loop-k-init
 unfolding walked_place
-loop-k-init g c = (omega arith, refl)
+loop-k-init g c = refl

@@ -1,5 +1,4 @@
 -- `listing_lines::append_scan` meets its contract: a turn writes one pair's line after those of the pairs before.
-use mathlib.Core.Path.{◌∙◌}
 use Prim.Native.Nat.{◌<◌, min}
 use native.Mathlib.Omega.{arith}
 use lib.ListN.{length}
@@ -17,9 +16,6 @@ loop-i-preserved c =
     let x = a.intensity.now in
     let here : c.loop-i.i < min (length m) (length x) = omega (arith, c.loop-i-test.true, c.pair_count-pairs.ensures) in
     turn m x c.loop-i.i _ c.loop-i.invariant (omega (arith, here)) (omega (arith, here)) c.append_pair-at.ensures
-
-pub shape_of-out : goal.shape_of-out
-shape_of-out c = c.loop-i.invariant.same ∙ c.append_three-at.ensures.same
 
 pub returns : goal.returns
 returns c =

@@ -1,14 +1,11 @@
 -- `listing_lines::scan_fits` meets its contract: the first line's length, and a pair's in each turn, until there are too many.
 use mathlib.Core.Path.{◌≡◌}
-use Prim.Native.Nat.{◌+◌, ◌-◌}
+use Prim.Native.Nat.{◌+◌}
 use lib.ListN.{length}
 use Rattle.listing_lines.specs.Lines.{scan_lines}
 use Rattle.listing_lines.proofs.Listing.{lines_from}
 use Rattle.listing_lines.proofs.scan_fits.Given as goal
 
 -- what is added up, and what is still to come
-abbrev pub invariant-loop-measured : goal.invariant-loop-measured
-invariant-loop-measured l = l.size + length (lines_from l.mz l.intensity l.measured) ≡ length (scan_lines l.number l.coefficients l.mz l.intensity)
-
-abbrev pub decreases-loop-measured : goal.decreases-loop-measured
-decreases-loop-measured l = l.pairs - l.measured
+abbrev pub invariant-loop-m : goal.invariant-loop-m
+invariant-loop-m l = l.size + length (lines_from l.mz l.intensity l.m-index) ≡ length (scan_lines l.number l.coefficients l.mz l.intensity)

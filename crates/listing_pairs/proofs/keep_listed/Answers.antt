@@ -19,21 +19,6 @@ module _ (c : In-loop-i) where
   in_intensities : c.loop-i.i < length c.loop-i.intensity
   in_intensities = omega (arith, c.loop-i-test.true, c.loop-i.invariant.0.same_intensities, c.min-pairs.ensures)
 
-pub bounds-mz-i : goal.bounds-mz-i
-bounds-mz-i c = in_masses (goal.at.bounds-mz-i c).In-loop-i
-
-pub bounds-mz-i-then-is_listed : goal.bounds-mz-i-then-is_listed
-bounds-mz-i-then-is_listed c = omega (arith, in_masses (goal.at.bounds-mz-i-then-is_listed c).In-loop-i, c.loop-i.invariant.0.within)
-
-pub bounds-mz-kept : goal.bounds-mz-kept
-bounds-mz-kept c = omega (arith, in_masses (goal.at.bounds-mz-kept c).In-loop-i, c.loop-i.invariant.0.within)
-
-pub bounds-intensity-i : goal.bounds-intensity-i
-bounds-intensity-i c = omega (arith, in_intensities (goal.at.bounds-intensity-i c).In-loop-i, c.loop-i.invariant.0.within)
-
-pub bounds-intensity-kept : goal.bounds-intensity-kept
-bounds-intensity-kept c = omega (arith, in_intensities (goal.at.bounds-intensity-kept c).In-loop-i, c.loop-i.invariant.0.within)
-
 pub loop-i-preserved : goal.loop-i-preserved
 loop-i-preserved c =
     let inv = c.loop-i.invariant.0 in
@@ -44,12 +29,6 @@ loop-i-preserved c =
       | then-is_listed w ↦ (rw (w.mz-is, w.intensity-is, w.kept-is) (keep_in _ _ _ _ inv (says ∙ w.if-is_listed.true) (omega (arith, m, inv.same_masses)) (omega (arith, x, inv.same_intensities))), omega arith)
       | else-is_listed w ↦ (rw (w.mz-is, w.intensity-is, w.kept-is) (keep_out _ _ _ _ inv (says ∙ w.if-is_listed.false)), omega arith)
     ]
-
-pub shape_of-mz : goal.shape_of-mz
-shape_of-mz c = c.loop-i.invariant.0.same_masses
-
-pub shape_of-intensity : goal.shape_of-intensity
-shape_of-intensity c = c.loop-i.invariant.0.same_intensities
 
 pub returns : goal.returns
 returns c =
