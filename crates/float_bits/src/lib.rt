@@ -8,6 +8,11 @@ ghost use Rattle.std.specs.Float.{binary32, binary64};
 ghost use Rattle.std.specs.Float.Ieee.Scale.{finite};
 ghost use Rattle.float_bits.specs.Absolute.{absolute};
 
+use std::num::{
+    f32_from_bits_with_nan, f32_to_bits_with_nan, f32_to_f64_with_nan, f64_from_bits_with_nan,
+    f64_to_bits_with_nan,
+};
+
 // Whether a pattern is a NaN's: with the sign off, it is above the infinity's.
 pub fn is_nan64(b: u64) -> bool
     ensures { result ≡ is_nan (from_bits binary64 b) }
@@ -38,38 +43,26 @@ pub fn is_finite32(b: u32) -> bool
 pub fn f64_of_bits(b: u64) -> f64
     ensures { result ≡ from_bits binary64 b }
 {
-    if is_nan64(b) {
-        0.0 / 0.0
-    } else {
-        f64::from_bits(b)
-    }
+    f64_from_bits_with_nan(b)
 }
 
 pub fn f32_of_bits(b: u32) -> f32
     ensures { result ≡ from_bits binary32 b }
 {
-    if is_nan32(b) {
-        0.0 / 0.0
-    } else {
-        f32::from_bits(b)
-    }
+    f32_from_bits_with_nan(b)
 }
 
 // The pattern of a value.
 pub fn bits_of_f64(x: f64) -> u64
     ensures { result ≡ to_bits binary64 x }
 {
-    if x != x {
-        0x7ff8_0000_0000_0000
-    } else {
-        f64::to_bits(x)
-    }
+    f64_to_bits_with_nan(x)
 }
 
 pub fn bits_of_f32(x: f32) -> u32
     ensures { result ≡ to_bits binary32 x }
 {
-    if x != x { 0x7fc0_0000 } else { f32::to_bits(x) }
+    f32_to_bits_with_nan(x)
 }
 
 // Whether a value is a finite number.
@@ -83,7 +76,7 @@ pub fn is_finite(x: f64) -> bool
 pub fn widened(b: u32) -> f64
     ensures { result ≡ from_bits binary32 b }
 {
-    std::num::f32_to_f64_with_nan(f32_of_bits(b))
+    f32_to_f64_with_nan(f32_of_bits(b))
 }
 
 // A value without its sign. A NaN gives a NaN.
