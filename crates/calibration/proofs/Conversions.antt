@@ -1,10 +1,10 @@
--- The conversion of the coefficients at each length, and the m/z by it, which is `freq_to_mz`.
-use Rattle.std.proofs.Common.{◌≡◌, ℕ, Bool, true, false, cond, ◌||◌, eqb, ◌⊎◌, List, length, refl, ap, ◌∙◌, inl, inr, ⊎_elim, ne_eqb}
+-- The m/z by a conversion, which is `freq_to_mz`.
+use Rattle.std.proofs.Common.{◌≡◌, ℕ, Bool, true, false, cond, ◌||◌, eqb, List, length, refl, ap, ◌∙◌}
 use lib.Ieee.{Float, binary32, binary64, add, eq, of_bits}
 use Rattle.lists.specs.Written.{each, over}
 use Rattle.lists.proofs.Laws.{each_same}
 use Rattle.calibration.specs.Convert.{coefficient, freq_to_mz, mz_of}
-use Rattle.calibration.specs.Internal.{conversion_by_length, conversion_of, converted, mz_by, chunk_bins, mz_on}
+use Rattle.calibration.specs.Internal.{conversion_of, converted, mz_by, chunk_bins, mz_on}
 use Rattle.calibration.specs.declared.Bins.{Bins}
 use Rattle.calibration.specs.declared.ChunkBins.{ChunkBins}
 use Rattle.calibration.specs.declared.Conversion.{Conversion}
@@ -16,22 +16,7 @@ zero_is : of_bits binary64 0 ≡ zero_f
 unfolding of_bits
 zero_is = refl
 
--- ---- the conversion at each length
-module _ (cs : List ℕ) where
-  pub with_length : (n : ℕ) → length cs ≡ n → conversion_by_length n cs ≡ conversion_of cs
-  with_length n e = rw e
-
-  pub with_five_or_seven : (length cs ≡ 5) ⊎ (length cs ≡ 7) → SquaredFrequency (coefficient cs 2) (coefficient cs 3) (coefficient cs 4) ≡ conversion_of cs
-  with_five_or_seven w = ⊎_elim (λ e. with_length 5 e) (λ e. with_length 7 e) w
-
-  pub with_others : (length cs ≡ 0 → ⊥) → (length cs ≡ 4 → ⊥) → ((length cs ≡ 5) ⊎ (length cs ≡ 7) → ⊥) → Unknown ≡ conversion_of cs
-  with_others a b c =
-      simp (ne_eqb (length cs) 0 a, ne_eqb (length cs) 4 b, ne_eqb (length cs) 5 (λ e. c (inl e)), ne_eqb (length cs) 7 (λ e. c (inr e)))
-
 -- ---- the m/z by a conversion
-pub at_zero : (conversion : Conversion) (freq : Float) → eq freq (of_bits binary64 0) ≡ true → of_bits binary64 0 ≡ mz_by conversion freq
-at_zero conversion freq z = simp (← zero_is, z)
-
 -- a value that the known conversion gives
 pub past_zero : (conversion known : Conversion) (freq v : Float) → eq freq (of_bits binary64 0) ≡ false → conversion ≡ known → v ≡ converted known freq
     → v ≡ mz_by conversion freq

@@ -78,7 +78,7 @@ fn mz_by(conversion: Conversion, freq: f64) -> f64
         Conversion::None => freq,
         Conversion::Frequency(a, b, c) => series_at(a, b, c, freq),
         Conversion::SquaredFrequency(a, b, c) => series_at(a, b, c, freq * freq),
-        Conversion::Unknown => 0.0 / 0.0,
+        Conversion::Unknown => f64::NAN,
     }
 }
 

@@ -1,12 +1,10 @@
 -- L2: an m/z that is NaN has no noise, and every other m/z gets what it got.
 use Rattle.std.specs.Prelude.{None}
-use mathlib.Core.Path.{◌≡◌, sym, ap}
+use mathlib.Core.Path.{◌≡◌}
 use mathlib.Core.Bool.{true, false}
 use mathlib.Core.List.{List}
 use Prim.Native.Nat.{ℕ}
-use lib.Ieee.{Float, binary64, is_nan, of_bits, ne}
-use lib.Ieee.Bits.{is_false}
-use Rattle.float_bits.proofs.Patterns.{differs, equals_itself}
+use lib.Ieee.{Float, binary64, is_nan, of_bits}
 use Rattle.float_narrow.specs.Narrow.{narrow}
 use Rattle.noise.specs.Nodes.{NodeBits}
 use Rattle.noise.specs.Line.{noise_of, noise_at}
@@ -25,13 +23,3 @@ number_label m nodes h = rw h
 
 pub nan_label : (m : ℕ) (nodes : List NodeBits) → is_nan (of_bits binary64 m) ≡ true → label_of (noise_at (of_bits binary64 m) nodes) ≡ record { flag = 0; noise = 0; baseline = 0 }
 nan_label m nodes h = rw h
-
--- ---- the code's test
-pub differs_nan : (x : Float) → ne x x ≡ true → is_nan x ≡ true
-unfolding is_nan
-differs_nan x h = sym (ap is_nan (differs x h))
-
-pub same_number : (x : Float) → ne x x ≡ false → is_nan x ≡ false
-same_number x h = is_false (is_nan x) (equals_itself x h)
-
-pub ruleset by_nan = (nan_none, number_as_before, differs_nan, same_number)
