@@ -13,7 +13,7 @@ use event_reactions::{Source, acceptable};
 use event_record::{EventAndNext, Lists, Places};
 use event_window::plausible_window;
 use event_writer::write_event;
-use reader::{remaining, u32_at, u64_at};
+use reader::{bytes, remaining, u32_at, u64_at};
 use refusal::{Part, Refusal};
 
 // Record i of a body that starts at `start` of the run.
@@ -22,20 +22,20 @@ fn judge_record(start: u64, body: &[u8], i: u64) -> Result<(), Refusal>
     ensures { outcome_of result ≡ judge_record start body.now i }
 {
     let off = 4 + i * 56;
-    if 8 <= remaining(body, off) {
-        let bits = u64_at(body, off);
-        if acceptable(bits) {
-            if 8 <= remaining(body, off + 16) {
-                return Ok(());
-            }
-            return Err(Refusal::BodyTooShort);
-        }
+    if remaining(body, off) < 8 {
+        return Err(Refusal::BodyTooShort);
+    }
+    let bits = u64_at(body, off);
+    if !acceptable(bits) {
         return Err(Refusal::InvalidPrecursorMz {
             place: start + off,
             bits,
         });
     }
-    Err(Refusal::BodyTooShort)
+    if remaining(body, off + 16) < 8 {
+        return Err(Refusal::BodyTooShort);
+    }
+    Ok(())
 }
 
 // The first n records. The loop ends at the first that is wrong or passes the body, whatever count is stored.
@@ -53,10 +53,7 @@ fn judge_records(start: u64, body: &[u8], n: u64) -> Result<(), Refusal>
 fn kept_count(bytes: &[u8], count: u64) -> u64
     ensures { result ≡ kept_count bytes.now count }
 {
-    if is_primary(bytes) {
-        return 0;
-    }
-    count
+    if is_primary(bytes) { 0 } else { count }
 }
 
 // Where the lists of a body stand whose records are sound, and its window.
@@ -65,13 +62,12 @@ fn lists_of(bytes: &[u8], body: &[u8], count: u64) -> Lists
     ensures { result ≡ lists_counted bytes.now body.now count }
 {
     let offset = count * 56 + 8;
-    let reactions = Source::Every {
-        from: 4,
-        stride: 56,
-        count: kept_count(bytes, count),
-    };
     Lists {
-        reactions,
+        reactions: Source::Every {
+            from: 4,
+            stride: 56,
+            count: kept_count(bytes, count),
+        },
         coefficients_at: offset + 20,
         coefficients: coefficient_count(body, offset + 16),
         window: plausible_window(body, offset),
@@ -82,34 +78,33 @@ fn judge_body(start: u64, bytes: &[u8], body: &[u8]) -> Result<Lists, Refusal>
     requires { start < 2 ^ 63 + 2 ^ 32 }
     ensures { outcome_of result ≡ judge_body start bytes.now body.now }
 {
-    if 4 <= remaining(body, 0) {
-        let count = u32_at(body, 0) as u64;
-        judge_records(start, body, kept_count(bytes, count))?;
-        return Ok(lists_of(bytes, body, count));
+    if remaining(body, 0) < 4 {
+        return Err(Refusal::BodyTooShort);
     }
-    Err(Refusal::BodyTooShort)
+    let count = u32_at(body, 0) as u64;
+    judge_records(start, body, kept_count(bytes, count))?;
+    Ok(lists_of(bytes, body, count))
 }
 
 // The event at a place of the run. Nothing is written.
 fn find_counted(run: &[u8], at: u64, body_size: u32) -> Result<Places, Refusal>
     ensures { outcome_of result ≡ find_counted body_size at run.now }
 {
-    if 136 <= remaining(run, at) {
-        let from = at as usize;
-        let middle = from + 136;
-        let size = body_size as u64;
-        if size <= remaining(run, at + 136) {
-            let to = middle + body_size as usize;
-            let lists = judge_body(at + 136, &run[from..middle], &run[middle..to])?;
-            return Ok(Places {
-                preamble: at,
-                preamble_len: 136,
-                lists,
-                next: at + 136 + size,
-            });
-        }
+    if remaining(run, at) < 136 {
+        return Err(Refusal::Short(Part::Event));
     }
-    Err(Refusal::Short(Part::Event))
+    let body = at + 136;
+    let size = body_size as u64;
+    if remaining(run, body) < size {
+        return Err(Refusal::Short(Part::Event));
+    }
+    let lists = judge_body(body, bytes(run, at, 136), bytes(run, body, size))?;
+    Ok(Places {
+        preamble: at,
+        preamble_len: 136,
+        lists,
+        next: body + size,
+    })
 }
 
 pub fn read_counted_v66(

@@ -5,7 +5,9 @@
 ghost use Rattle.std.specs.Prelude.{◌≡◌};
 ghost use Rattle.event_record.specs.Activation.{above, with_precursor, supplemental, supplemented as supplemented_by, event_activation};
 
-use codes::{Activation, analyzer, ms_power};
+use codes::Activation;
+use codes::analyzer::Analyzer;
+use codes::ms_power::MsPower;
 use event_preamble::ScanEventPreamble;
 use event_reactions::Source;
 use event_window::{FoundWindow, Window};
@@ -71,8 +73,8 @@ fn with_precursor(precursors: &[u64]) -> u64
 fn has_supplemental_reaction(preamble: &[u8], precursors: &[u64]) -> bool
     ensures { result ≡ supplemental preamble.now precursors.now }
 {
-    u8_at(preamble, 6) as u32 == ms_power::MS2
-        && u8_at(preamble, 40) as u32 == analyzer::FTMS
+    u8_at(preamble, 6) as u32 == MsPower::Ms2 as u32
+        && u8_at(preamble, 40) as u32 == Analyzer::FTMS as u32
         && precursors.len() >= 2
         && with_precursor(precursors) == 1
 }

@@ -16,9 +16,9 @@ returns-in_err-judge_records c =
     let p = err_from_is_err_and c.from_residual.result c.from_residual.ensures.1 in
     rw (p.1, p.2) (wrong_record _ _ _ (omega arith) _ c.u32_at-count.ensures c.kept_count.ensures c.in_err-judge_records.ensures)
 
-pub returns-then-remaining-ge4 : goal.returns-then-remaining-ge4
-returns-then-remaining-ge4 c =
+pub returns : goal.returns
+returns c =
     ap ok c.lists_of.ensures ∙ sound_records _ _ _ (omega arith) _ c.u32_at-count.ensures c.kept_count.ensures c.in_ok-judge_records.ensures
 
-pub returns : goal.returns
-returns c = no_count _ _ _ (omega arith)
+pub returns-then-remaining-lt4 : goal.returns-then-remaining-lt4
+returns-then-remaining-lt4 c = no_count _ _ _ (omega arith)
