@@ -19,17 +19,18 @@ fn count_channels(run: &[u8], at: u64, size: u64) -> Result<u64, Refusal>
     requires { size ≤ 20 }
     ensures { outcome_of result ≡ channels size run.now at }
 {
-    if 4 <= remaining(run, at) {
-        let n = u32_at(run, at) as u64;
-        if n == 0 {
-            return Ok(0);
-        }
-        let all = 28 + n * size;
-        if all <= remaining(run, at + 4) {
-            return Ok(n);
-        }
+    if remaining(run, at) < 4 {
+        return Err(Refusal::Short(Part::Data));
     }
-    Err(Refusal::Short(Part::Data))
+    let n = u32_at(run, at) as u64;
+    if n == 0 {
+        return Ok(0);
+    }
+    let all = 28 + n * size;
+    if remaining(run, at + 4) < all {
+        return Err(Refusal::Short(Part::Data));
+    }
+    Ok(n)
 }
 
 // The peaks of a scan, found and not handed out. Each m/z stands 12 bytes after the one before, its abundance right after it.

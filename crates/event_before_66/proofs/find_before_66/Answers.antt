@@ -7,17 +7,17 @@ use Rattle.event_before_66.proofs.find_before_66.Goals as goal
 pub overflow_add-len : goal.overflow_add-len
 overflow_add-len c = omega (arith, size_most c.args.version, c.size_for_version-len.ensures)
 
-pub returns-then-m-remaining : goal.returns-then-m-remaining
-returns-then-m-remaining c =
-    whole _ _ _ c.size_for_version-len.ensures (omega arith) c.u32_at-n.ensures (omega arith) c.u32_at-m.ensures (omega arith) c.lists_of-lists.ensures
+pub returns : goal.returns
+returns c =
+    whole _ _ _ c.size_for_version-len.ensures (omega arith) c.u32_at-n.ensures (omega arith) c.u32_at-m.ensures (omega arith) c.lists_of.ensures
 
-pub returns-else-m-remaining : goal.returns-else-m-remaining
-returns-else-m-remaining c =
+pub returns-then-remaining-m : goal.returns-then-remaining-m
+returns-then-remaining-m c =
     short_tail _ _ _ c.size_for_version-len.ensures (omega arith) c.u32_at-n.ensures (omega arith) c.u32_at-m.ensures (omega arith)
 
-pub returns-else-n-remaining : goal.returns-else-n-remaining
-returns-else-n-remaining c =
+pub returns-then-remaining-n : goal.returns-then-remaining-n
+returns-then-remaining-n c =
     short_middle _ _ _ c.size_for_version-len.ensures (omega arith) c.u32_at-n.ensures (omega arith)
 
-pub returns-else-len-remaining : goal.returns-else-len-remaining
-returns-else-len-remaining c = short_head _ _ _ (omega (arith, c.size_for_version-len.ensures))
+pub returns-then-remaining-len : goal.returns-then-remaining-len
+returns-then-remaining-len c = short_head _ _ _ (omega (arith, c.size_for_version-len.ensures))

@@ -16,19 +16,19 @@ overflow_mul-all c = omega (arith, mul-le-mul_left c.u32_at-n.result c.requires)
 pub overflow_add-all : goal.overflow_add-all
 overflow_add-all c = omega (arith, mul-le-mul_left c.u32_at-n.result c.requires)
 
-pub returns-then-all-remaining : goal.returns-then-all-remaining
-returns-then-all-remaining c =
+pub returns : goal.returns
+returns c =
     let a = c.args in
     let u = c.u32_at-n in
     whole_table a.size a.run.now a.at (omega arith) u.result u.ensures c.if-n-eq0.false (omega arith)
 
-pub returns-else-all-remaining : goal.returns-else-all-remaining
-returns-else-all-remaining c =
+pub returns-then-remaining-all : goal.returns-then-remaining-all
+returns-then-remaining-all c =
     let a = c.args in
     let u = c.u32_at-n in
     short_table a.size a.run.now a.at (omega arith) u.result u.ensures c.if-n-eq0.false (omega arith)
 
-pub returns-else-remaining-ge4 : goal.returns-else-remaining-ge4
-returns-else-remaining-ge4 c =
+pub returns-then-remaining-lt4 : goal.returns-then-remaining-lt4
+returns-then-remaining-lt4 c =
     let a = c.args in
     no_count a.size a.run.now a.at (omega arith)
