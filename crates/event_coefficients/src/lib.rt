@@ -25,13 +25,9 @@ pub fn word_offset(window: u64, size: u64, primary: bool) -> u64
 pub fn coefficient_count(body: &[u8], offset: u64) -> u64
     ensures { result ≡ coefficient_count body.now offset }
 {
-    if 4 <= remaining(body, offset) {
-        let stored = u32_at(body, offset) as u64;
-        let fit = remaining(body, offset + 4) / 8;
-        if stored <= fit {
-            return stored;
-        }
-        return fit;
+    if remaining(body, offset) < 4 {
+        return 0;
     }
-    0
+    let stored = u32_at(body, offset) as u64;
+    stored.min(remaining(body, offset + 4) / 8)
 }

@@ -48,7 +48,11 @@ fn lists_of(bytes: &[u8], body: &[u8], tribrid: bool) -> Lists
 fn body_size(primary: bool, body_primary: u32, body_dependent: u32) -> u32
     ensures { result ≡ cond primary body_primary body_dependent }
 {
-    if primary { body_primary } else { body_dependent }
+    if primary {
+        body_primary
+    } else {
+        body_dependent
+    }
 }
 
 fn is_tribrid(primary: bool, body_primary: u32, body_dependent: u32) -> bool

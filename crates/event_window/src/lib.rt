@@ -65,8 +65,7 @@ pub fn plausible_window(body: &[u8], off: u64) -> FoundWindow
 fn or_at(found: FoundWindow, body: &[u8], off: u64) -> FoundWindow
     ensures { result ≡ first_of found (first_window body.now (off ∷ [])) }
 {
-    let window = found.window;
-    match window {
+    match found.window {
         Window::Absent => plausible_window(body, off),
         Window::Ends(_, _) => found,
     }
