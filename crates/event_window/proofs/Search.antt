@@ -1,5 +1,5 @@
 -- The window at one offset, and the search, candidate by candidate.
-use mathlib.Core.Path.{◌≡◌, refl, sym, ◌∙◌}
+use mathlib.Core.Path.{◌≡◌, sym, ap, ◌∙◌}
 use mathlib.Core.Logic.{⊎_elim}
 use mathlib.Core.Bool.{true, false}
 use Prim.Native.Nat.{ℕ, ◌+◌, ◌≤◌, ◌<◌}
@@ -10,9 +10,12 @@ use borrow.Author.Tests.{le-leb, lt-leb}
 use Rattle.lists.proofs.Cases.{bool_cases}
 use Rattle.parser.specs.Parser.{remaining, f64_at, word_at}
 use Rattle.event_window.specs.Window.{plausible_ends, window_of, has_window, no_window, first_window}
-use Rattle.event_window.specs.Internal.{first_of}
 use Rattle.event_window.specs.declared.Window.{Window}
+use Rattle.event_window.specs.declared.FoundWindow.{FoundWindow}
 use Rattle.event_window.specs.declared.Window.TheVariants.{Absent, Ends}
+
+never : {low high : Float} → Absent ≡ Ends low high → ⊥
+never e = cc
 
 module _ (body : List ℕ) (off : ℕ) where
   pub too_few : remaining body off < 16 → no_window ≡ first_window body (off ∷ [])
@@ -29,19 +32,31 @@ module _ (body : List ℕ) (off : ℕ) where
     stands h =
         ⊎_elim
         (λ (p : plausible_ends (f64_at body off) (f64_at body (off + 8)) ≡ true). let e : w ≡ Ends (f64_at body off) (f64_at body (off + 8)) = same ∙ rw p in rw (e, le-leb _ _ t, p, el, eh))
-        (λ (p : plausible_ends (f64_at body off) (f64_at body (off + 8)) ≡ false). let e : Absent ≡ w = sym (same ∙ rw p) in let c : ◌≡◌ {A = ℕ} 0 1 = cc in absurd (omega arith))
+        (λ (p : plausible_ends (f64_at body off) (f64_at body (off + 8)) ≡ false). absurd (never (sym (same ∙ rw p) ∙ h)))
         (bool_cases (plausible_ends (f64_at body off) (f64_at body (off + 8))))
 
     pub implausible : w ≡ Absent → no_window ≡ first_window body (off ∷ [])
     unfolding first_window
     implausible h =
         ⊎_elim
-        (λ (p : plausible_ends (f64_at body off) (f64_at body (off + 8)) ≡ true). let e : Ends (f64_at body off) (f64_at body (off + 8)) ≡ w = sym (same ∙ rw p) in let c : ◌≡◌ {A = ℕ} 0 1 = cc in absurd (omega arith))
+        (λ (p : plausible_ends (f64_at body off) (f64_at body (off + 8)) ≡ true). absurd (never {low = f64_at body off} {high = f64_at body (off + 8)} (sym h ∙ same ∙ rw p)))
         (λ (p : plausible_ends (f64_at body off) (f64_at body (off + 8)) ≡ false). rw (le-leb _ _ t, p))
         (bool_cases (plausible_ends (f64_at body off) (f64_at body (off + 8))))
 
-  -- one candidate more, after those that were searched
-  pub one_last : (offs : List ℕ) → first_of (first_window body offs) (first_window body (off ∷ [])) ≡ first_window body (offs ++ off ∷ [])
-  unfolding first_window
-  one_last [] = refl
-  one_last (o ∷ os) = ⊎_elim (λ (t : has_window body o ≡ true). rw t) (λ (t : has_window body o ≡ false). rw t (one_last os)) (bool_cases (has_window body o))
+  -- of offsets, by the window at the first of them
+  module _ (offs : List ℕ) {found : FoundWindow} (is : found ≡ first_window body (off ∷ [])) where
+    pub first_there : {low high : Float} → found.window ≡ Ends low high → found ≡ first_window body (off ∷ offs)
+    unfolding first_window
+    first_there h =
+        ⊎_elim
+        (λ (t : has_window body off ≡ true). is ∙ rw t)
+        (λ (t : has_window body off ≡ false). absurd (never (sym (ap (λ (w : FoundWindow). w.window) (rw t at is)) ∙ h)))
+        (bool_cases (has_window body off))
+
+    pub first_later : found.window ≡ Absent → first_window body (off ∷ offs) ≡ first_window body offs
+    unfolding first_window
+    first_later h =
+        ⊎_elim
+        (λ (t : has_window body off ≡ true). absurd (never (sym h ∙ ap (λ (w : FoundWindow). w.window) (rw t at is))))
+        (λ (t : has_window body off ≡ false). rw t)
+        (bool_cases (has_window body off))

@@ -4,7 +4,6 @@
 
 ghost use Rattle.std.specs.Prelude.{◌≡◌, ◌∷◌, [], length};
 ghost use Rattle.event_window.specs.Window.{window_of, first_window, candidates};
-ghost use Rattle.event_window.specs.Internal.{first_of};
 
 use float_bits::{f64_of_bits, is_finite};
 use reader::{remaining, u64_at};
@@ -23,6 +22,13 @@ pub struct FoundWindow {
     pub high: u64,
     pub offset: u64,
 }
+
+const NO_WINDOW: FoundWindow = FoundWindow {
+    window: Window::Absent,
+    low: 0,
+    high: 0,
+    offset: 0,
+};
 
 // Both ends finite, and 0.1 <= low <= high <= 50000. Equal ends are a window: some scans have a single point.
 pub fn window_of(low: f64, high: f64) -> Window
@@ -53,30 +59,20 @@ pub fn plausible_window(body: &[u8], off: u64) -> FoundWindow
             };
         }
     }
-    FoundWindow {
-        window: Window::Absent,
-        low: 0,
-        high: 0,
-        offset: 0,
-    }
+    NO_WINDOW
 }
 
-// The window that was found, else the one at this offset. A candidate after a window is not looked at.
-fn or_at(found: FoundWindow, body: &[u8], off: u64) -> FoundWindow
-    ensures { result ≡ first_of found (first_window body.now (off ∷ [])) }
+// The window at the first of these offsets that has one. An offset after a window is not looked at.
+fn first_window(body: &[u8], offsets: &[u64]) -> FoundWindow
+    ensures { result ≡ first_window body.now offsets.now }
 {
-    match found.window {
-        Window::Absent => plausible_window(body, off),
-        Window::Ends(_, _) => found,
+    for &off in offsets {
+        let found = plausible_window(body, off);
+        if let Window::Ends(_, _) = found.window {
+            return found;
+        }
     }
-}
-
-// The window at the first of four candidates that has one.
-fn first_window(body: &[u8], a: u64, b: u64, c: u64, d: u64) -> FoundWindow
-    ensures { result ≡ first_window body.now (a ∷ b ∷ c ∷ d ∷ []) }
-{
-    let first = plausible_window(body, a);
-    or_at(or_at(or_at(first, body, b), body, c), body, d)
+    NO_WINDOW
 }
 
 // The window of a body. A tribrid's dependent events have it elsewhere than other instruments.
@@ -85,8 +81,8 @@ pub fn find_window(body: &[u8], tribrid: bool) -> FoundWindow
 {
     let size = body.len() as u64;
     if tribrid {
-        first_window(body, size.saturating_sub(88), 8, 64, 128)
+        first_window(body, &[size.saturating_sub(88), 8, 64, 128])
     } else {
-        first_window(body, 64, 8, 128, size.saturating_sub(80))
+        first_window(body, &[64, 8, 128, size.saturating_sub(80)])
     }
 }

@@ -1,13 +1,29 @@
--- `event_window::first_window` meets its contract: the candidates are searched in turn.
-use mathlib.Core.Path.{◌∙◌}
-use mathlib.Core.List.{◌∷◌, []}
-use Rattle.event_window.proofs.Search.{one_last}
+-- `event_window::first_window` meets its contract. The invariant: no offset before this one has a window.
+use mathlib.Core.Path.{◌≡◌, refl, sym, ap, ◌∙◌}
+use Prim.Native.Nat.{◌<◌}
+use native.Mathlib.Omega.{arith}
+use native.Mathlib.Numerals.{add-one}
+use lib.ListN.{length, drop_of_length-le}
+use lib.Seq.{drop-cons}
+use Rattle.event_window.specs.Window.{first_window}
+use Rattle.event_window.proofs.Search.{first_there, first_later}
 use Rattle.event_window.proofs.first_window.Goals as goal
 
-pub returns : goal.returns
-returns c =
+pub returns-in-Ends : goal.returns-in-Ends
+returns-in-Ends c =
     let a = c.args in
-    let s = a.body.now in
-    let two = rw c.plausible_window-first.ensures at c.or_at.ensures ∙ one_last s a.b (a.a ∷ []) in
-    let three = rw two at c.or_at-2.ensures ∙ one_last s a.c (a.a ∷ a.b ∷ []) in
-    rw three at c.or_at-3.ensures ∙ one_last s a.d (a.a ∷ a.b ∷ a.c ∷ [])
+    let l = c.loop-off in
+    first_there _ _ _ c.plausible_window-found.ensures c.in-Ends.is
+    ∙ sym (l.invariant ∙ ap (first_window a.body.now) (drop-cons a.offsets.now l.off-index 0 (omega arith)))
+
+pub loop-off-preserved : goal.loop-off-preserved
+loop-off-preserved c =
+    let a = c.args in
+    let l = c.loop-off in
+    l.invariant
+    ∙ ap (first_window a.body.now) (drop-cons a.offsets.now l.off-index 0 (omega arith))
+    ∙ rw add-one (first_later _ _ _ c.plausible_window-found.ensures c.in_default.is)
+
+pub returns : goal.returns
+unfolding first_window
+returns c = sym (c.loop-off.invariant ∙ rw (drop_of_length-le c.args.offsets.now {i = c.loop-off.off-index} (omega arith)))
