@@ -1,7 +1,7 @@
 -- `calibration::write_chunk` meets its contract: the room is tested, and what is worked out once gives each bin's m/z.
 use Rattle.std.proofs.Common.{◌+◌, ◌*◌, sym, ◌∙◌}
 use Rattle.parser.specs.Parser.{f32_at}
-use Rattle.lists.proofs.Left.{pairs_no_room}
+use Rattle.lists.proofs.Left.{fits_true, pairs_no_room}
 use Rattle.lists.proofs.Laws.{length-each}
 use Rattle.calibration.specs.Convert.{mz_of, chunk_pairs}
 use Rattle.calibration.proofs.Columns.{each_over}
