@@ -1,9 +1,6 @@
 -- The line is the first piece of as many bytes as are taken.
-use Rattle.std.proofs.Common.{◌≡◌, ℕ, ◌<◌, List, length, take, subst, ap, ◌∙◌, IfOk, IfSome, None, Some, Ok, vec_items}
+use Rattle.std.proofs.Common.{◌≡◌, ℕ, ◌<◌, List, length, take, subst, ap, ◌∙◌, Option, option_map, Result, IfOk, IfSome, None, Some, Ok, vec_items}
 use Rattle.std.specs.Io.BufRead.{first_piece, DropsThrough}
-use Rattle.core.specs.Option.{option_map}
-use Rattle.core.specs.declared.option.Option.{Option}
-use Rattle.core.specs.declared.result.Result.{Result}
 use Rattle.probe.proofs.lines.next_line.Goals as goal
 
 -- what is said of the first n known bytes, said of all
