@@ -1,14 +1,13 @@
 // Little-endian numbers that may be missing (bytes.rs), and a reader that refers to the run's slice (`BinaryReader`). A read or a
 // skip that passes the end is refusal 1 of the reader itself, which names no part.
-// The functions over the reader are thin: each takes the struct apart and calls functions of the slice and the place, which the
-// decoder's own functions take.
+// Its methods are thin: each calls functions of the slice and the place, which the decoder's own functions take.
 #![tactic(auto)]
 
 ghost use Rattle.std.specs.Prelude.{◌≡◌};
 ghost use Rattle.parser.specs.Parser.{bytes, parse, word, skip, check_count, word_at};
-ghost use Rattle.binary_reader.specs.Read.{width, outcome_of, reads, place_after, Moves};
+ghost use Rattle.binary_reader.specs.Read.{width, outcome_of, reads, Moves};
 
-use reader::{remaining, u16_at, u32_at, u64_at, u8_at};
+use reader::{remaining, u8_at, u16_at, u32_at, u64_at};
 
 // How many bytes a number has.
 #[derive(Clone, Copy)]
@@ -23,14 +22,16 @@ pub enum Width {
 #[derive(Clone, Copy)]
 pub struct RanOut;
 
-fn bytes_of(size: Width) -> u64
-    ensures { result ≡ width size }
-{
-    match size {
-        Width::One => 1,
-        Width::Two => 2,
-        Width::Four => 4,
-        Width::Eight => 8,
+impl Width {
+    fn bytes(self) -> u64
+        ensures { result ≡ width self }
+    {
+        match self {
+            Width::One => 1,
+            Width::Two => 2,
+            Width::Four => 4,
+            Width::Eight => 8,
+        }
     }
 }
 
@@ -47,10 +48,11 @@ fn number_at(run: &[u8], at: u64, size: Width) -> u64
 }
 
 // The number of so many bytes at a place of a run.
+#[tactic(auto, unfolding(parser::specs::Parser::parse))]
 pub fn read_at(run: &[u8], at: u64, size: Width) -> Result<u64, RanOut>
     ensures { outcome_of result ≡ reads (parse (word (width size)) run.now at) }
 {
-    if bytes_of(size) <= remaining(run, at) {
+    if size.bytes() <= remaining(run, at) {
         return Ok(number_at(run, at, size));
     }
     Err(RanOut)
@@ -70,6 +72,7 @@ pub fn read_f64_le(data: &[u8], offset: u64) -> Result<u64, RanOut>
 }
 
 // Whether n bytes can be passed over at a place.
+#[tactic(auto, unfolding(parser::specs::Parser::parse))]
 pub fn skip_at(run: &[u8], at: u64, n: u64) -> Result<(), RanOut>
     ensures { outcome_of result ≡ reads (parse (skip n) run.now at) }
 {
@@ -79,23 +82,8 @@ pub fn skip_at(run: &[u8], at: u64, n: u64) -> Result<(), RanOut>
     Err(RanOut)
 }
 
-// The place after n bytes; a place at which they are missing stays.
-fn place_after(run: &[u8], at: u64, n: u64) -> u64
-    ensures { result ≡ place_after at (parse (skip n) run.now at) }
-{
-    if n <= remaining(run, at) {
-        return at + n;
-    }
-    at
-}
-
-fn word_after(run: &[u8], at: u64, size: Width) -> u64
-    ensures { result ≡ place_after at (parse (word (width size)) run.now at) }
-{
-    place_after(run, at, bytes_of(size))
-}
-
 // Whether n records of so many bytes can stand at a place. Their product may pass 64 bits, so it is not formed.
+#[tactic(auto, unfolding(parser::specs::Parser::parse))]
 pub fn check_count_at(run: &[u8], at: u64, n: u64, size: u64) -> Result<(), RanOut>
     ensures { outcome_of result ≡ reads (parse (check_count n size) run.now at) }
 {
@@ -115,49 +103,50 @@ pub struct BinaryReader<'a> {
     pub place: u64,
 }
 
-pub fn new<'a>(bytes: &'a [u8], place: u64) -> BinaryReader<'a>
-    ensures { (result.bytes ≡ bytes.entry) × (result.place ≡ place) }
-{
-    BinaryReader { bytes, place }
-}
+impl<'a> BinaryReader<'a> {
+    pub fn new(bytes: &'a [u8], place: u64) -> BinaryReader<'a>
+        ensures { (result.bytes ≡ bytes.entry) × (result.place ≡ place) }
+    {
+        BinaryReader { bytes, place }
+    }
 
-pub fn position<'a>(r: BinaryReader<'a>) -> u64
-    ensures { result ≡ r.entry.place }
-{
-    r.place
-}
+    pub fn position(&self) -> u64
+        ensures { result ≡ self.now.place }
+    {
+        self.place
+    }
 
-// The number at the reader's place, and the reader goes on after it. Where it ran out the reader stays.
-pub fn read_word<'s, 'a>(r: &'s mut BinaryReader<'a>, size: Width) -> Result<u64, RanOut>
-    ensures { Moves (word (width size)) r.old (outcome_of result) r.new }
-{
-    let next = word_after(r.bytes, r.place, size);
-    let answer = read_at(r.bytes, r.place, size);
-    r.place = next;
-    answer
-}
+    // The number at the reader's place, and the reader goes on after it. Where it ran out the reader stays.
+    #[tactic(auto, unfolding(parser::specs::Parser::parse))]
+    pub fn read_word(&mut self, size: Width) -> Result<u64, RanOut>
+        ensures { Moves (word (width size)) self.old (outcome_of result) self.new }
+    {
+        let number = read_at(self.bytes, self.place, size)?;
+        self.place = self.place + size.bytes();
+        Ok(number)
+    }
 
-// The reader goes on after n bytes.
-pub fn skip<'s, 'a>(r: &'s mut BinaryReader<'a>, n: u64) -> Result<(), RanOut>
-    ensures { Moves (skip n) r.old (outcome_of result) r.new }
-{
-    let next = place_after(r.bytes, r.place, n);
-    let answer = skip_at(r.bytes, r.place, n);
-    r.place = next;
-    answer
-}
+    // The reader goes on after n bytes.
+    #[tactic(auto, unfolding(parser::specs::Parser::parse))]
+    pub fn skip(&mut self, n: u64) -> Result<(), RanOut>
+        ensures { Moves (skip n) self.old (outcome_of result) self.new }
+    {
+        skip_at(self.bytes, self.place, n)?;
+        self.place = self.place + n;
+        Ok(())
+    }
 
-// Whether n records of so many bytes are left.
-pub fn check_count<'a>(r: BinaryReader<'a>, n: u64, size: u64) -> Result<(), RanOut>
-    ensures { outcome_of result ≡ reads (parse (check_count n size) r.entry.bytes.now r.entry.place) }
-{
-    check_count_at(r.bytes, r.place, n, size)
+    // Whether n records of so many bytes are left.
+    pub fn check_count(&self, n: u64, size: u64) -> Result<(), RanOut>
+        ensures { outcome_of result ≡ reads (parse (check_count n size) self.now.bytes.now self.now.place) }
+    {
+        check_count_at(self.bytes, self.place, n, size)
+    }
 }
 
 // A number through a reader, for a caller that has a slice and a place.
 pub fn word_at(run: &[u8], place: u64, size: Width) -> Result<u64, RanOut>
     ensures { outcome_of result ≡ reads (parse (word (width size)) run.now place) }
 {
-    let mut r = new(run, place);
-    read_word(&mut r, size)
+    BinaryReader::new(run, place).read_word(size)
 }
