@@ -7,7 +7,7 @@ use native.Mathlib.Omega.{arith}
 use mathlib.Core.List.{List, [], ◌∷◌, ◌++◌, append-nil, append_assoc}
 use lib.ListN.{length, set, take, drop, length-take, drop_of_length-le}
 use Rattle.std.proofs.lemmas.List.{take-append-drop}
-use Rattle.core.specs.Int.{byte_at, bytes_low_first}
+use Rattle.std.specs.Int.{byte_at, bytes_low_first}
 use lib.Seq.{sets, sets-eq, length-sets, set_out, take_all, drop-drop}
 use Rattle.lists.specs.Written.{over}
 use Rattle.lists.proofs.Cases.{le_or_lt}
