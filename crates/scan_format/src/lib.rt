@@ -32,11 +32,7 @@ impl ScanDataFormat {
     pub fn is_flat(self) -> bool
         ensures { result ≡ flat self }
     {
-        match self {
-            ScanDataFormat::PacketHeader => false,
-            ScanDataFormat::FlatV63 => true,
-            ScanDataFormat::FlatV66 => true,
-        }
+        matches!(self, ScanDataFormat::FlatV63 | ScanDataFormat::FlatV66)
     }
 
     pub fn display_name(self, out: &mut [u8]) -> Result<u64, Refusal>

@@ -10,14 +10,14 @@ use Rattle.scan_index.proofs.ScanIndexEntry.read.Goals as goal
 pub fields-requires : goal.fields-requires
 fields-requires c = omega (arith, entry_least c.args.version)
 
-pub returns-then-min_size_for_version-remaining : goal.returns-then-min_size_for_version-remaining
-unfolding read_entry
-returns-then-min_size_for_version-remaining c =
-    let v = c.args.version in
-    record_whole 2 _ (entry v) (λ e _. ok e) (entry_size v) (entry_sized v) _ (omega arith) (ap ok c.fields.ensures)
-
 pub returns : goal.returns
 unfolding read_entry
 returns c =
+    let v = c.args.version in
+    record_whole 2 _ (entry v) (λ e _. ok e) (entry_size v) (entry_sized v) _ (omega arith) (ap ok c.fields.ensures)
+
+pub returns-then-remaining-min_size_for_version : goal.returns-then-remaining-min_size_for_version
+unfolding read_entry
+returns-then-remaining-min_size_for_version c =
     let v = c.args.version in
     record_short 2 _ (entry v) (λ e _. ok e) (entry_size v) (entry_sized v) _ (omega arith)
