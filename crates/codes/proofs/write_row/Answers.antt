@@ -5,17 +5,8 @@ use Prim.Native.Nat.{◌+◌, ◌*◌, ◌-◌}
 use native.Mathlib.Omega.{arith}
 use lib.ListN.{get_or, take, drop}
 use Rattle.codes.specs.Internal.{rows}
-use Rattle.codes.proofs.Tables.{table, lengths, row_is, digit_is, row_within}
+use Rattle.codes.proofs.Tables.{table, lengths, row_is}
 use Rattle.codes.proofs.write_row.Goals as goal
-
-pub digit-requires : goal.digit-requires
-digit-requires c = omega (arith, digit_is _ c.requires)
-
-pub overflow_add-end : goal.overflow_add-end
-overflow_add-end c = omega (arith, row_within _ c.requires, c.digit.ensures)
-
-pub slice_bounds-write-end : goal.slice_bounds-write-end
-slice_bounds-write-end c = omega (arith, row_within _ c.requires, c.digit.ensures)
 
 pub returns : goal.returns
 returns c =

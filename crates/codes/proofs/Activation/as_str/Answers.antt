@@ -1,5 +1,0 @@
--- `Activation::as_str` meets its contract: what `write_row` wrote is the activation's name.
-use Rattle.codes.proofs.Activation.as_str.Goals as goal
-
-pub returns : goal.returns
-returns c = rw c.row.ensures.1 at c.write_row.ensures
