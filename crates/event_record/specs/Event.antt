@@ -1,6 +1,6 @@
 -- What an event of any version holds, and what is written of it.
 use Rattle.std.specs.Prelude.{ℕ, List, [], ◌∷◌, length}
-use Rattle.refusal.specs.Outcome.{Outcome, ok}
+use Rattle.refusal.specs.Outcome.{Outcome}
 use Rattle.lists.specs.Left.{firsts, seconds, lists_if_fit}
 use Rattle.event_window.specs.declared.FoundWindow.{FoundWindow}
 use Rattle.event_reactions.specs.Reactions.{Reaction}

@@ -17,9 +17,3 @@ loop-i-preserved c =
       | then-acceptable w ↦ rw w.count-is (count_in _ _ _ _ (sym says ∙ w.if-acceptable.true) inv)
       | else-acceptable w ↦ rw w.count-is (count_out _ _ _ _ (sym says ∙ w.if-acceptable.false) inv)
     ]
-
-pub returns : goal.returns
-returns c =
-    let l = c.loop-i in
-    let all : l.i ≡ c.args.n = omega arith in
-    rw all at l.invariant.counted

@@ -12,12 +12,3 @@ returns-then-x c =
       | then-is_finite64 w ↦ simp (← zero_is, ← limit_is, value, finite ∙ w.if-is_finite64.true, rw value at (sym w.value-is ∙ c.if-x.true))
       | else-is_finite64 w ↦ cc
     ]
-
-pub returns-else-x : goal.returns-else-x
-returns-else-x c =
-    let value = c.f64_of_bits-x.ensures in
-    let finite = sym c.is_finite64.ensures in
-    elim c.if-is_finite64.branch [
-      | then-is_finite64 w ↦ simp (← zero_is, c.if-x.false, finite ∙ w.if-is_finite64.true, rw value at (sym w.value-is ∙ c.if-x.false))
-      | else-is_finite64 w ↦ simp (c.if-x.false, finite ∙ w.if-is_finite64.false)
-    ]

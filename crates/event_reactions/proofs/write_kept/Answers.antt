@@ -44,12 +44,6 @@ loop-i-preserved c =
           (rw w.count-is (count_out _ _ _ _ h inv.0), rw (w.precursors-is, w.energies-is) (write_out _ _ _ _ _ _ _ h inv.1))
     ]
 
-pub shape_of-precursors : goal.shape_of-precursors
-shape_of-precursors c = c.loop-i.invariant.1.same_precursors
-
-pub shape_of-energies : goal.shape_of-energies
-shape_of-energies c = c.loop-i.invariant.1.same_energies
-
 pub returns : goal.returns
 returns c =
     let l = c.loop-i in

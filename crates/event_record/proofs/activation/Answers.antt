@@ -1,6 +1,5 @@
 -- `event_record::activation` meets its contract: `cc` joins the calls.
 use Rattle.event_record.specs.Activation.{event_activation}
-use borrow.Author.Rules.{rules}
 use Rattle.event_record.proofs.activation.Goals as goal
 
 pub returns : goal.returns
