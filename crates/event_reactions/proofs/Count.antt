@@ -5,7 +5,6 @@ use Prim.Native.Nat.{ℕ, ◌≤◌}
 use lib.ListN.{length, length-map}
 use borrow.Author.Tests.{le-leb}
 use Rattle.refusal.specs.Outcome.{Outcome}
-use Rattle.refusal.specs.Number.{outcome_of}
 use Rattle.lists.specs.Written.{over}
 use Rattle.lists.specs.Left.{after, Left, firsts, seconds, columns, pairs_if_fit}
 use Rattle.event_reactions.specs.Reactions.{Reaction}

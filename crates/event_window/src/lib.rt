@@ -8,13 +8,14 @@ ghost use Rattle.event_window.specs.Window.{window_of, first_window, candidates}
 use float_bits::{f64_of_bits, is_finite};
 use reader::{remaining, u64_at};
 
+// An enum of our own, and no `Option`: it is named with its cases in what the customer ordered.
 #[derive(Clone, Copy)]
 pub enum Window {
     Absent,
     Ends(f64, f64),
 }
 
-// A window, the bits of its ends, and its offset in the body; 0 where it is absent.
+// A window, the bits of its ends, and its offset in the body; 0 where it is absent, as the count word's place is sought by the number.
 #[derive(Clone, Copy)]
 pub struct FoundWindow {
     pub window: Window,

@@ -13,7 +13,7 @@ use refusal::{Part, Refusal};
 #[derive(Clone, Copy)]
 pub struct TrayHeader {
     pub version: u32,
-    // 0 or 1 in a header that was read.
+    // 0 or 1 in a header that was read: the word as it stands, like the seven others.
     pub flat: u32,
     // Body sizes of primary and dependent events, from version 66 on.
     pub primary: u32,

@@ -18,6 +18,7 @@ pub fn store_bytes(out: &mut [u8], at: u64, xs: &[u8])
     out[start..end].copy_from_slice(&xs[..end - start]);
 }
 
+// A store for each width: one line each, where a trait over the widths would need as many to say their bytes.
 pub fn store_u8(out: &mut [u8], at: u64, x: u8)
     ensures { out.new ≡ sets out.old at (le_bytes 1 x) }
 {

@@ -1,8 +1,6 @@
 -- `event_reactions::count_kept` meets its contract. The invariant: `count` of the first i records are kept.
-use mathlib.Core.Path.{◌≡◌, sym, ◌∙◌}
-use native.Mathlib.Omega.{arith}
+use mathlib.Core.Path.{sym, ◌∙◌}
 use Rattle.event_reactions.proofs.Kept.{count_none, count_in, count_out}
-use borrow.Author.Rules.{rules}
 use Rattle.event_reactions.proofs.count_kept.Goals as goal
 use Rattle.event_reactions.proofs.count_kept.Goals.{then-acceptable, else-acceptable}
 

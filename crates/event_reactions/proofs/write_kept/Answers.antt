@@ -6,7 +6,6 @@ use native.Mathlib.Omega.{arith}
 use lib.ListN.{length}
 use Rattle.event_reactions.specs.Reactions.{kept}
 use Rattle.event_reactions.proofs.Kept.{kept_room, count_none, count_in, count_out, write_none, write_in, write_out}
-use borrow.Author.Rules.{rules}
 use Rattle.event_reactions.proofs.write_kept.Goals as goal
 use Rattle.event_reactions.proofs.write_kept.Goals.{then-acceptable, else-acceptable}
 use Rattle.event_reactions.proofs.write_kept.Goals.{After-acceptable}
