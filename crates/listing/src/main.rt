@@ -77,7 +77,7 @@ fn print_listing<W: Write>(to: &mut W, input: &[u8; 24577], n: usize) {
     }
 }
 
-// Reads until the slice is full or the input ends.
+// Reads until the slice is full or the input ends. The loop counts no index: a read gives as many bytes as it likes.
 fn read_input<R: Read>(from: &mut R, input: &mut [u8]) -> io::Result<usize> {
     let mut n: usize = 0;
     while n < input.len() {
