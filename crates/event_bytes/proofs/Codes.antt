@@ -1,19 +1,17 @@
 -- Codes and activations that are tested as the same are equal.
-use Rattle.std.specs.Prelude.{Some, None, Option}
+use Rattle.std.specs.Prelude.{Option}
 use Rattle.std.proofs.Common.{rules, tests}
 use Rattle.std.proofs.Math.Bool.{and-true}
 use Rattle.std.specs.Option.{option_eq}
-use mathlib.Core.Path.{◌≡◌, refl, ap, sym, ◌∙◌}
-use Prim.Native.Nat.{ℕ, suc, ◌+◌, ◌-◌}
-use native.Mathlib.Omega.{arith}
-use mathlib.Core.Bool.{Bool, true, false, beq, cond}
+use mathlib.Core.Path.{◌≡◌, refl}
+use Prim.Native.Nat.{ℕ}
+use mathlib.Core.Bool.{Bool, true, beq}
 use lib.Dec.{eqb}
-use borrow.Author.Tests.{eqb-true, eq-eqb, ne_eqb}
-use Rattle.lists.proofs.Cases.{and_true, false_not_true}
+use borrow.Author.Tests.{eqb-true, eq-eqb}
+use Rattle.lists.proofs.Cases.{and_true}
 use Rattle.codes.specs.contracts.ActivationPartialEq.TheImpl as of_activation
 use Rattle.event_preamble.specs.contracts.ScanEventPreamblePartialEq.TheImpl as of_preamble
 use Rattle.codes.specs.declared.Activation.{Activation}
-use Rattle.codes.specs.declared.Activation.TheVariants as activation
 use Rattle.event_preamble.specs.declared.ScanEventPreamble.{ScanEventPreamble}
 use Rattle.event_bytes.specs.Codes.{code_number, activation_number, same_code, same_activation, same_flag, same_codes}
 

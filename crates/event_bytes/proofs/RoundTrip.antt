@@ -16,7 +16,7 @@ use borrow.Author.Tests.{le-leb, lt-leb, eqb-true}
 use Rattle.refusal.specs.Outcome.{ok}
 use Rattle.refusal.specs.Number.{outcome_of}
 use Rattle.refusal.specs.declared.Refusal.{Refusal}
-use Rattle.lists.specs.Left.{fits, if_fits, lengths, lists_if_fit, LeftListBy, firsts, seconds}
+use Rattle.lists.specs.Left.{fits, if_fits, lengths, lists_if_fit, LeftListBy}
 use Rattle.lists.proofs.Cases.{and_true, false_not_true}
 use Rattle.lists.proofs.Left.{fits_true, wrote}
 use Rattle.parser.specs.Parser.{parsed, parse, done}

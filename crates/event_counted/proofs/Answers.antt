@@ -3,8 +3,6 @@ use Rattle.std.specs.Prelude.{Ok}
 use mathlib.Core.Path.{◌≡◌, refl}
 use mathlib.Core.Logic.{⊎_elim}
 use Prim.Native.Nat.{ℕ, ◌+◌, ◌≤◌, ◌<◌}
-use native.Mathlib.Omega.{arith}
-use mathlib.Core.Bool.{Bool, true, false, cond}
 use mathlib.Core.List.{List, []}
 use lib.ListN.{length}
 use borrow.Author.Tests.{le-leb, lt-leb}
@@ -12,7 +10,6 @@ use Rattle.refusal.specs.Outcome.{Outcome, ok, refused, ran_out, on_ok, and_then
 use Rattle.refusal.specs.Number.{outcome_of}
 use Rattle.lists.proofs.Cases.{le_or_lt}
 use Rattle.parser.specs.Parser.{bytes, word_at, remaining}
-use Rattle.event_preamble.specs.Settings.{is_primary}
 use Rattle.event_record.specs.Event.{event_if_fits}
 use Rattle.event_record.specs.Places.{event_in, with_lists, places_of}
 use Rattle.event_record.specs.declared.Lists.{Lists}
@@ -93,10 +90,3 @@ module _ (start : ℕ) (preamble body : List ℕ) where
 
     pub sound_records : ok tt ≡ judge_records start body n → ok (lists_counted preamble body count) ≡ judge_body start preamble body
     sound_records h = rw (← k, ← h) at (by_records t count e)
-
-kept_by : (b : Bool) (count : ℕ) → cond b 0 count ≤ count
-kept_by true count = omega arith
-kept_by false count = omega arith
-
-pub kept_most : (preamble : List ℕ) (count : ℕ) → kept_count preamble count ≤ count
-kept_most preamble count = kept_by (is_primary preamble) count

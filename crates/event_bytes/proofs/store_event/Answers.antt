@@ -1,11 +1,6 @@
 -- `event_bytes::store_event` meets its contract: nine parts, one after the other.
-use native.Mathlib.Omega.{arith}
 use Rattle.event_bytes.proofs.Bytes.{stored_event}
 use Rattle.event_bytes.proofs.store_event.Goals as goal
-
-pub overflow_add-ends-6 : goal.overflow_add-ends-6
-overflow_add-ends-6 c =
-    omega (arith, c.min-n.ensures, c.requires.preamble, c.requires.reactions)
 
 pub returns : goal.returns
 returns c =

@@ -1,12 +1,11 @@
 -- `event_bytes::store_reactions` meets its contract. The invariant: the reactions that were yielded are stored, and the place is that of the next.
-use mathlib.Core.Path.{ap, ◌∙◌}
+use mathlib.Core.Path.{◌∙◌}
 use native.Mathlib.Omega.{arith}
 use lib.ListN.{length, length-append}
-use lib.Seq.{length-sets}
 use Rattle.std.specs.List.{zip}
 use Rattle.std.proofs.lemmas.Slice.Zip.{zip_turn, zip_end, length-zip, get_or-zip}
 use Rattle.layout.specs.Layout.{written}
-use Rattle.writer.proofs.Loops.{storing_none, storing_more, storing_all}
+use Rattle.writer.proofs.Loops.{storing_more, storing_all}
 use Rattle.event_before_66.specs.Layout.{reaction}
 use Rattle.event_bytes.proofs.Bytes.{reaction_size}
 use Rattle.event_bytes.proofs.store_reactions.Goals as goal

@@ -3,13 +3,8 @@ use mathlib.Core.Path.{ap, ◌∙◌}
 use native.Mathlib.Omega.{arith}
 use Rattle.std.proofs.lemmas.Result.{err_from_is_err_and}
 use Rattle.refusal.specs.Outcome.{ok}
-use Rattle.event_counted.proofs.Answers.{no_count, wrong_record, sound_records, kept_most}
+use Rattle.event_counted.proofs.Answers.{no_count, wrong_record, sound_records}
 use Rattle.event_counted.proofs.judge_body.Goals as goal
-
-pub judge_records-requires : goal.judge_records-requires
-judge_records-requires c =
-    let p = c.args.bytes.now in
-    (omega arith, omega (arith, c.kept_count.ensures, kept_most p c.u32_at-count.result))
 
 pub returns-in_err-judge_records : goal.returns-in_err-judge_records
 returns-in_err-judge_records c =

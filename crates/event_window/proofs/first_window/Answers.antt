@@ -1,9 +1,8 @@
 -- `event_window::first_window` meets its contract. The invariant: no offset before this one has a window.
-use mathlib.Core.Path.{◌≡◌, refl, sym, ap, ◌∙◌}
-use Prim.Native.Nat.{◌<◌}
+use mathlib.Core.Path.{sym, ap, ◌∙◌}
 use native.Mathlib.Omega.{arith}
 use native.Mathlib.Numerals.{add-one}
-use lib.ListN.{length, drop_of_length-le}
+use lib.ListN.{drop_of_length-le}
 use lib.Seq.{drop-cons}
 use Rattle.event_window.specs.Window.{first_window}
 use Rattle.event_window.proofs.Search.{first_there, first_later}

@@ -10,12 +10,6 @@ use Rattle.srm_channels.proofs.count_channels.Goals.{then-is_channel, else-is_ch
 pub loop-i-init : goal.loop-i-init
 loop-i-init c = (count_none _ _ _, search rules)
 
-pub is_channel-requires : goal.is_channel-requires
-is_channel-requires c = (omega (arith, c.loop-i.invariant.0.started), omega arith)
-
-pub overflow_add-count : goal.overflow_add-count
-overflow_add-count c = omega (arith, c.loop-i.invariant.0.within)
-
 pub loop-i-preserved : goal.loop-i-preserved
 loop-i-preserved c =
     let inv = c.loop-i.invariant.0 in

@@ -24,9 +24,6 @@ room c held =
 pub loop-i-init : goal.loop-i-init
 loop-i-init c = (count_none _ _ _, write_none _ _ _ _ _, write_none _ _ _ _ _, write_none _ _ _ _ _, search rules)
 
-pub is_channel-requires : goal.is_channel-requires
-is_channel-requires c = (omega (arith, c.loop-i.invariant.0.started), omega arith)
-
 pub channel_at-channel-requires : goal.channel_at-channel-requires
 channel_at-channel-requires c =
     record { le_i = (omega (arith, c.loop-i.invariant.0.started), omega arith); i_bound = channel_event 65536 _ _ _ (λ k. omega (arith, c.type_inv.events k)) (sym c.is_channel.ensures ∙ c.if-is_channel.true) }
@@ -45,9 +42,6 @@ offset_bounds-collision_energy-written c = let r = (room (goal.at.offset_bounds-
 
 pub bounds-collision_energy-written : goal.bounds-collision_energy-written
 bounds-collision_energy-written c = (room (goal.at.bounds-collision_energy-written c).After-is_channel c.if-is_channel.true).2
-
-pub overflow_add-written : goal.overflow_add-written
-overflow_add-written c = omega (arith, c.loop-i.invariant.0.within)
 
 pub loop-i-preserved : goal.loop-i-preserved
 loop-i-preserved c =
@@ -74,15 +68,6 @@ loop-i-preserved c =
             omega (arith, inv.0.started),
           )
     ]
-
-pub shape_of-channel_events : goal.shape_of-channel_events
-shape_of-channel_events c = c.loop-i.invariant.1.same
-
-pub shape_of-q1 : goal.shape_of-q1
-shape_of-q1 c = c.loop-i.invariant.2.same
-
-pub shape_of-collision_energy : goal.shape_of-collision_energy
-shape_of-collision_energy c = c.loop-i.invariant.3.same
 
 pub returns : goal.returns
 unfolding channels_in

@@ -2,11 +2,6 @@
 use Rattle.srm_flat_peaks.proofs.Constants.{is_0, is_10, is_10000}
 use Rattle.srm_flat_peaks.proofs.is_plausible.Goals as goal
 
-pub returns-then-mz : goal.returns-then-mz
-returns-then-mz c =
-    let value = c.widened-mz.ensures in
-    simp (← is_0, value, rw value at c.if-mz.true)
-
 pub returns-then-mz-2 : goal.returns-then-mz-2
 returns-then-mz-2 c =
     let value = c.widened-mz.ensures in

@@ -1,5 +1,4 @@
 -- `srm_scan::count_channels` meets its contract: each way out is decided by the tests that led there.
-use native.Mathlib.Nat.{mul-le-mul_left}
 use native.Mathlib.Omega.{arith}
 use Rattle.srm_scan.proofs.Counting.{no_count, no_channels, short_table, whole_table}
 use Rattle.srm_scan.proofs.count_channels.Goals as goal
@@ -9,12 +8,6 @@ returns-then-n-eq0 c =
     let a = c.args in
     let u = c.u32_at-n in
     no_channels a.size a.run.now a.at (omega arith) u.result u.ensures c.if-n-eq0.true
-
-pub overflow_mul-all : goal.overflow_mul-all
-overflow_mul-all c = omega (arith, mul-le-mul_left c.u32_at-n.result c.requires)
-
-pub overflow_add-all : goal.overflow_add-all
-overflow_add-all c = omega (arith, mul-le-mul_left c.u32_at-n.result c.requires)
 
 pub returns : goal.returns
 returns c =

@@ -4,6 +4,3 @@ use Rattle.srm_transition.proofs.narrow_window.Goals as goal
 
 pub returns-then-lo-hi : goal.returns-then-lo-hi
 returns-then-lo-hi c = simp (← is_0_1, c.if-lo-hi.true)
-
-pub returns-else-lo-hi : goal.returns-else-lo-hi
-returns-else-lo-hi c = simp c.if-lo-hi.false
