@@ -56,9 +56,6 @@ module _ (x : Float) (F : T (fits binary64 x)) (a : T (le least x)) (h : T (le x
   above_zero : T (positive x)
   above_zero = between least x (fin false 3125 (pos 4)) tt tt a (subst (λ (k : Float). T (le x k)) top_is h)
 
-  pub is_no_nan : T (not (is_nan x))
-  is_no_nan = not_nan x above_zero
-
   value : Stands binary64 b x
   value = stands binary64 x F (positive-finite x above_zero)
 

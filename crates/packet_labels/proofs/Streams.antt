@@ -1,13 +1,13 @@
 -- A stream is of one size, whether it has a word for each peak or not, and its words are read off at their places.
 use mathlib.Core.Path.{◌≡◌, refl, ap, sym, subst, ◌∙◌}
 use mathlib.Core.Logic.{⊎_elim}
-use Prim.Native.Nat.{ℕ, ◌+◌, ◌*◌, ◌-◌, ◌/◌, ◌≤◌, ◌<◌}
+use Prim.Native.Nat.{ℕ, ◌+◌, ◌*◌, ◌-◌, ◌/◌}
 use native.Mathlib.Nat.{add-zero, add_assoc}
 use native.Mathlib.Omega.{arith}
-use mathlib.Core.Bool.{Bool, true, false, ◌&&◌, cond}
+use mathlib.Core.Bool.{true, false}
 use mathlib.Core.List.{List, []}
 use lib.Dec.{leb, eqb}
-use borrow.Author.Tests.{le-leb, lt-leb, eq-eqb, ne_eqb, eqb-true}
+use borrow.Author.Tests.{le-leb, eqb-true}
 use Rattle.lists.specs.Written.{each}
 use Rattle.lists.proofs.Cases.{bool_cases, and_true}
 use Rattle.lists.proofs.Laws.{each_none, each_same}
@@ -61,18 +61,3 @@ triplets_sized size =
 pub triplets_value : (size : ℕ) (s : List ℕ) (at off : ℕ) → value (triplets size) s at off ≡ bytes s (at + off) (size / 3 * 12)
 unfolding triplets
 triplets_value size s at off = refl
-
--- how many words there are, by the tests
-module _ (n others size : ℕ) where
-  pub one_each_count : 1 ≤ n → size ≡ others + n → n ≡ word_count n others size
-  one_each_count h e = rw (le-leb 1 n h, eq-eqb size (others + n) e)
-
-  pub no_peaks : n < 1 → 0 ≡ word_count n others size
-  no_peaks h = rw (lt-leb 1 n h)
-
-  pub other_size : (size ≡ others + n → ⊥) → 0 ≡ word_count n others size
-  other_size h = rw (ne_eqb size (others + n) h) (nothing (leb 1 n))
-    where
-      nothing : (b : Bool) → 0 ≡ cond (b && false) n 0
-      nothing true = refl
-      nothing false = refl

@@ -1,7 +1,7 @@
 -- A loop that counts the values of a profile's chunks.
 use mathlib.Core.Path.{◌≡◌, ap, sym, ◌∙◌}
 use Prim.Native.Nat.{ℕ, ◌+◌, ◌*◌, ◌-◌, ◌≤◌, ◌<◌}
-use native.Mathlib.Nat.{sub-zero, zero-add, add-zero, add_assoc}
+use native.Mathlib.Nat.{add-zero, add_assoc}
 use native.Mathlib.Omega.{arith}
 use mathlib.Core.List.{List}
 use Rattle.parser.specs.Parser.{short, parse}
@@ -19,9 +19,6 @@ module _ (p : Profile) (s : List ℕ) where
     pub passed : i ≤ p.peak_count
     pub fits : w * 4 ≤ at
     pub total : sum points (chunks_of p s) ≡ w + sum points (chunks_from p.fudged s (p.peak_count - i) at)
-
-  pub counting_first : Counting 0 p.chunks_at 0
-  counting_first = record { passed = omega arith; fits = omega arith; total = rw (sub-zero, zero-add) }
 
   module _ {i at w : ℕ} (c : Counting i at w) where
     pub counting_more : i < p.peak_count → {v : Signal} → There p.fudged s at v → Counting (i + 1) v.next (w + v.points)

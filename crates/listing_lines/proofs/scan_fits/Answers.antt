@@ -1,11 +1,10 @@
 -- `listing_lines::scan_fits` meets its contract: the first line's length, and a pair's in each turn, until there are too many.
-use mathlib.Core.Path.{◌≡◌, sym, ap, ◌∙◌}
+use mathlib.Core.Path.{◌≡◌, ap, ◌∙◌}
 use Prim.Native.Nat.{ℕ, ◌<◌, ◌≤◌, min}
 use native.Mathlib.Omega.{arith}
 use lib.Ieee.{Float, nan}
 use lib.ListN.{length, length-take}
 use lib.Seq.{get_or-take}
-use borrow.Author.Tests.{lt-leb}
 use Rattle.listing_lines.specs.Lines.{mass_text, scan_lines}
 use Rattle.listing_lines.proofs.Room.{mass_most}
 use Rattle.listing_lines.proofs.Listing.{size_turn, size_end, first_size}
@@ -15,11 +14,6 @@ pub loop-m-init : goal.loop-m-init
 loop-m-init c =
     let a = c.args in
     first_size a.number a.coefficients a.mz.now a.intensity.now _ c.pair_count-pairs.ensures c.append_three-size.ensures (omega arith) (omega arith) (omega arith)
-
-pub returns-then-size-room : goal.returns-then-size-room
-returns-then-size-room c =
-    let a = c.args in
-    sym (lt-leb (length (scan_lines a.number a.coefficients a.mz.now a.intensity.now)) a.room (omega (arith, c.loop-m.invariant)))
 
 -- a mass is short
 few : {n : ℕ} (mz : Float) → n ≡ length (mass_text mz) → n ≤ 9

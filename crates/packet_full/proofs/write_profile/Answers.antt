@@ -2,13 +2,7 @@
 use Rattle.lists.proofs.Laws.{over_none}
 use Rattle.packet_full.proofs.write_profile.Goals as goal
 
-pub write_chunks-requires : goal.write_chunks-requires
-write_chunks-requires c = rw c.in-Some.is at c.requires
-
 pub returns-in_default : goal.returns-in_default
 returns-in_default c =
     let a = c.args in
     rw (c.in_default.is, over_none a.bins.now, over_none a.counts.now, over_none a.fudges.now, over_none a.signal.now)
-
-pub returns-in-Some : goal.returns-in-Some
-returns-in-Some c = rw c.in-Some.is c.write_chunks.ensures

@@ -1,5 +1,4 @@
 -- `packet_peak_list::read_peaks` meets its contract: each way out is decided by the tests that led there.
-use native.Mathlib.Nat.{mul-le-mul_left}
 use native.Mathlib.Omega.{arith}
 use Rattle.packet_peak_list.proofs.Lists.{no_list, short_count, short_peaks, whole_list}
 use Rattle.packet_peak_list.proofs.read_peaks.Goals as goal
@@ -8,9 +7,6 @@ pub returns-then-h-eq0 : goal.returns-then-h-eq0
 returns-then-h-eq0 c =
     let a = c.args in
     no_list a.h a.run.now a.at _ c.is_wide-wide.ensures c.if-h-eq0.true
-
-pub overflow_mul-all : goal.overflow_mul-all
-overflow_mul-all c = omega (arith, mul-le-mul_left c.u32_at-n.result c.item_size.ensures.upper_bound)
 
 pub returns-then-all-remaining : goal.returns-then-all-remaining
 returns-then-all-remaining c =

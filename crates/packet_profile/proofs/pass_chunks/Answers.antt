@@ -3,7 +3,7 @@
 use mathlib.Core.Path.{◌≡◌, ap, sym, ◌∙◌}
 use native.Mathlib.Omega.{arith}
 use Rattle.refusal.specs.Number.{outcome_of}
-use Rattle.parser.proofs.Walk.{walk_none, walk_more}
+use Rattle.parser.proofs.Walk.{walk_more}
 use Rattle.packet_profile.specs.Profile.{points as points_of, chunk}
 use Rattle.packet_profile.proofs.Chunks.{list_short, list_all}
 use Rattle.packet_profile.proofs.Signals.{There, there, missing, missing_is, points_at}
@@ -11,9 +11,6 @@ use Rattle.std.proofs.lemmas.Result.{err_from_is_err_and}
 use borrow.Author.Rules.{rules}
 use Rattle.packet_profile.proofs.pass_chunks.Goals as goal
 use Rattle.packet_profile.proofs.pass_chunks.Goals.{In_ok-signal}
-
-pub loop-init : goal.loop-init
-loop-init c = (search rules, search rules, walk_none points_of (chunk _) _ _ _)
 
 pub returns-in_err-signal : goal.returns-in_err-signal
 returns-in_err-signal c =

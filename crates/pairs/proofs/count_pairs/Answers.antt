@@ -3,12 +3,9 @@ use mathlib.Core.Path.{ap, sym, ◌∙◌}
 use native.Mathlib.Omega.{arith}
 use Rattle.refusal.specs.Number.{outcome_of}
 use Rattle.packet_profile.proofs.Signals.{There, there, missing}
-use Rattle.pairs.proofs.Counting.{counting_first, counting_more, counting_short, counting_all}
+use Rattle.pairs.proofs.Counting.{counting_more, counting_short, counting_all}
 use Rattle.pairs.proofs.count_pairs.Goals as goal
 use Rattle.pairs.proofs.count_pairs.Goals.{In-Ok}
-
-pub loop-init : goal.loop-init
-loop-init c = counting_first c.args.profile c.args.run.now
 
 pub returns-in_default : goal.returns-in_default
 returns-in_default c =

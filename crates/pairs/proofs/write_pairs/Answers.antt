@@ -3,7 +3,7 @@ use mathlib.Core.Path.{refl, ap, sym, ◌∙◌}
 use native.Mathlib.Omega.{arith}
 use Rattle.refusal.specs.Number.{outcome_of}
 use Rattle.packet_profile.proofs.Signals.{There, there, missing}
-use Rattle.pairs.proofs.Writing.{writing_first, writing_more, writing_short, writing_all, mz_size, intensity_size, mz_within, intensity_within, with_chunk}
+use Rattle.pairs.proofs.Writing.{writing_first, writing_more, writing_short, writing_all, mz_size, mz_within, intensity_within, with_chunk}
 use Rattle.pairs.proofs.write_pairs.Goals as goal
 use Rattle.pairs.proofs.write_pairs.Goals.{In-Ok}
 
@@ -11,12 +11,6 @@ pub loop-init : goal.loop-init
 loop-init c =
     let a = c.args in
     writing_first a.profile a.coefficients.now a.run.now a.mz.now a.intensity.now
-
-pub shape_of-mz-in_default : goal.shape_of-mz-in_default
-shape_of-mz-in_default c = mz_size _ _ _ _ _ c.requires.run_in_bounds c.requires.run_in_bounds_2 c.loop.invariant
-
-pub shape_of-intensity-in_default : goal.shape_of-intensity-in_default
-shape_of-intensity-in_default c = intensity_size _ _ _ _ _ c.requires.run_in_bounds c.requires.run_in_bounds_2 c.loop.invariant
 
 pub returns-in_default : goal.returns-in_default
 returns-in_default c =
@@ -54,12 +48,6 @@ pub loop-preserved : goal.loop-preserved
 loop-preserved c =
     writing_more _ _ _ _ _ c.requires.run_in_bounds c.requires.run_in_bounds_2 c.loop.invariant (omega (arith, c.loop-test.true)) (chunk_there (goal.at.loop-preserved c).In-Ok) _ _
     c.u32_at.ensures c.fudge_at.ensures c.write_chunk.result _ _ _ _ refl refl c.write_chunk.ensures
-
-pub shape_of-mz : goal.shape_of-mz
-shape_of-mz c = mz_size _ _ _ _ _ c.requires.run_in_bounds c.requires.run_in_bounds_2 c.loop.invariant
-
-pub shape_of-intensity : goal.shape_of-intensity
-shape_of-intensity c = intensity_size _ _ _ _ _ c.requires.run_in_bounds c.requires.run_in_bounds_2 c.loop.invariant
 
 pub returns : goal.returns
 returns c =
