@@ -1,6 +1,7 @@
 // The text of answers.
-ghost use Rattle.std.specs.Prelude.{◌≡◌, ℕ, ◌++◌, ◌∷◌, [], List, OnOk, string_bytes, codes, decimal};
+ghost use Rattle.std.specs.Prelude.{◌≡◌, ℕ, ◌++◌, ◌∷◌, [], List, OnOk, MatchOption, string_bytes, codes, decimal};
 ghost use Rattle.std.specs.Int.{from_bool};
+ghost use Rattle.probe_text.specs.Answers.{bytes_field, count as count_of, elements, hex_digits, name as name_of, refused as refused_of};
 
 use crate::element::Element;
 use crate::error::ProbeError;
@@ -88,7 +89,9 @@ impl Answer {
         self.number(value)
     }
 
-    pub fn bits<T: Element>(&mut self, x: T) -> Result<(), ProbeError> {
+    pub fn bits<T: Element>(&mut self, x: T) -> Result<(), ProbeError>
+        ensures { OnOk result (self.new ≡ self.old ++ 32 ∷ hex_digits T.DIGITS (T.bits_of x)) }
+    {
         let bits = x.bits();
         let width = T::DIGITS;
         Ok(write!(self.text, " {bits:0width$x}")?)
@@ -102,7 +105,9 @@ impl Answer {
     }
 
     // The answer of a function that may have none.
-    pub fn option<N: Into<u64> + Drop>(&mut self, answer: Option<N>) -> Result<(), ProbeError> {
+    pub fn option<N: Into<u64> + Drop>(&mut self, answer: Option<N>) -> Result<(), ProbeError>
+        ensures { OnOk result (MatchOption answer (self.new ≡ self.old ++ codes "none") (λ value. (n : ℕ) × N.converts value n × (self.new ≡ self.old ++ codes "ok " ++ decimal n))) }
+    {
         match answer {
             Some(value) => self.ok_number(value),
             None => self.none(),
@@ -110,7 +115,9 @@ impl Answer {
     }
 
     // A refusal by its number and what it carries.
-    pub fn refused(&mut self, refusal: Refusal) -> Result<(), ProbeError> {
+    pub fn refused(&mut self, refusal: Refusal) -> Result<(), ProbeError>
+        ensures { OnOk result (self.new ≡ self.old ++ refused_of refusal) }
+    {
         self.put("refused")?;
         self.number(refusal.number())?;
         match refusal {
@@ -124,7 +131,9 @@ impl Answer {
     }
 
     // A count or a place.
-    pub fn count(&mut self, answer: Result<u64, Refusal>) -> Result<(), ProbeError> {
+    pub fn count(&mut self, answer: Result<u64, Refusal>) -> Result<(), ProbeError>
+        ensures { OnOk result (self.new ≡ self.old ++ count_of answer) }
+    {
         match answer {
             Ok(value) => self.ok_number(value),
             Err(refusal) => self.refused(refusal),
@@ -132,7 +141,9 @@ impl Answer {
     }
 
     // A field of bytes, as in a request.
-    pub fn bytes(&mut self, run: &[u8]) -> Result<(), ProbeError> {
+    pub fn bytes(&mut self, run: &[u8]) -> Result<(), ProbeError>
+        ensures { OnOk result (self.new ≡ self.old ++ bytes_field run.now) }
+    {
         if run.is_empty() {
             return self.put(" -");
         }
@@ -144,7 +155,9 @@ impl Answer {
     }
 
     // A lent slice after the call.
-    pub fn slice<T: Element>(&mut self, lent: &[T]) -> Result<(), ProbeError> {
+    pub fn slice<T: Element>(&mut self, lent: &[T]) -> Result<(), ProbeError>
+        ensures { OnOk result (self.new ≡ self.old ++ codes " |" ++ elements T.DIGITS T.bits_of lent.now) }
+    {
         self.put(" |")?;
         for x in lent {
             self.bits(*x)?;
@@ -153,7 +166,9 @@ impl Answer {
     }
 
     // What a name's function answered, and the slice that it was lent. The empty name stands for the Rust's `None`.
-    pub fn name(&mut self, name: Result<u64, Refusal>, lent: &[u8]) -> Result<(), ProbeError> {
+    pub fn name(&mut self, name: Result<u64, Refusal>, lent: &[u8]) -> Result<(), ProbeError>
+        ensures { OnOk result (self.new ≡ self.old ++ name_of name ++ codes " |" ++ elements 2 (λ byte. byte) lent.now) }
+    {
         match name {
             Ok(0) => self.none()?,
             Ok(count) => self.ok_number(count)?,

@@ -1,5 +1,5 @@
 // The elements of lent slices: what they hold before the call, and how they are printed after it (docs/REQUESTS.md, "Form").
-ghost use Rattle.std.specs.Prelude.{◌≡◌, ℕ, ◌+◌, ◌%◌, ◌<◌};
+ghost use Rattle.std.specs.Prelude.{◌≡◌, ℕ, ◌+◌, ◌%◌, ◌<◌, to_bits};
 ghost use Rattle.std.specs.Float.{binary64};
 ghost use Rattle.std.specs.Float.Ieee.{of_bits};
 
@@ -8,6 +8,8 @@ pub const LONGEST: usize = 1024;
 
 pub trait Element: Copy {
     // How many hexadecimal digits it is printed in.
+    ghost DIGITS: { ℕ };
+
     const DIGITS: usize;
 
     // What element i holds before a slice is lent.
@@ -17,10 +19,16 @@ pub trait Element: Copy {
         requires { i < LONGEST }
         ensures { result ≡ filler_at i };
 
-    fn bits(self) -> u64;
+    // The number that is printed.
+    ghost bits_of: { Self → ℕ };
+
+    fn bits(self) -> u64
+        ensures { result ≡ bits_of self };
 }
 
 impl Element for u8 {
+    ghost DIGITS = { 2 };
+
     const DIGITS: usize = 2;
 
     ghost filler_at = { λ i. (0xa5 + i) % 256 };
@@ -29,12 +37,16 @@ impl Element for u8 {
         ((0xa5 + i) % 256) as u8
     }
 
+    ghost bits_of = { λ x. x };
+
     fn bits(self) -> u64 {
         u64::from(self)
     }
 }
 
 impl Element for u16 {
+    ghost DIGITS = { 4 };
+
     const DIGITS: usize = 4;
 
     ghost filler_at = { λ i. 0xa5a0 + i };
@@ -43,12 +55,16 @@ impl Element for u16 {
         0xa5a0 + i as u16
     }
 
+    ghost bits_of = { λ x. x };
+
     fn bits(self) -> u64 {
         u64::from(self)
     }
 }
 
 impl Element for u32 {
+    ghost DIGITS = { 8 };
+
     const DIGITS: usize = 8;
 
     ghost filler_at = { λ i. 0xa5a5_0000 + i };
@@ -57,12 +73,16 @@ impl Element for u32 {
         0xa5a5_0000 + i as u32
     }
 
+    ghost bits_of = { λ x. x };
+
     fn bits(self) -> u64 {
         u64::from(self)
     }
 }
 
 impl Element for u64 {
+    ghost DIGITS = { 16 };
+
     const DIGITS: usize = 16;
 
     ghost filler_at = { λ i. 0xa5a5_a5a5_0000_0000 + i };
@@ -71,12 +91,16 @@ impl Element for u64 {
         0xa5a5_a5a5_0000_0000 + i as u64
     }
 
+    ghost bits_of = { λ x. x };
+
     fn bits(self) -> u64 {
         self
     }
 }
 
 impl Element for f64 {
+    ghost DIGITS = { 16 };
+
     const DIGITS: usize = 16;
 
     ghost filler_at = { λ i. of_bits binary64 (0xa5a5_a5a5_0000_0000 + i) };
@@ -86,6 +110,8 @@ impl Element for f64 {
     }
 
     // Any NaN has the same bits.
+    ghost bits_of = { λ x. to_bits binary64 x };
+
     fn bits(self) -> u64 {
         float_bits::bits_of_f64(self)
     }
