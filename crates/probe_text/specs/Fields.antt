@@ -1,6 +1,11 @@
 -- How a line is cut into its fields.
-use Rattle.std.specs.Prelude.{ℕ, ◌≡◌, ◌==◌, ◌<◌, Bool, List, Option, Some, None, Ok, ◌⊎◌, [], codes, length}
-use Rattle.std.specs.List.{position_or_len, before_first, after_first}
+use Rattle.std.specs.Prelude.{ℕ, ◌≡◌, ◌==◌, ◌<◌, ◌≤◌, ◌/◌, ◌%◌, Bool, List, Option, Some, None, Ok, ◌⊎◌, [], codes, length, map, IsTrue}
+use Rattle.std.specs.List.{position_or_len, before_first, after_first, list_all}
+use Rattle.std.specs.Char.{is_ascii_digit}
+use Rattle.std.specs.Int.{from_le_bytes}
+use Rattle.std.specs.Simd.{first_chunks}
+use Rattle.std.specs.Str.Parse.{digits_value}
+use mir.Syntax.{Width}
 use Rattle.hex.specs.Hex.{decode_of}
 use denote.Ref.{Bor}
 
@@ -22,3 +27,16 @@ ReadsOne before after = (field : List ℕ) × Reads before field after
 -- what a field of bytes stands for: `-` for none
 abbrev pub IsHexOf : List ℕ → List ℕ → Type 0
 IsHexOf field bytes = ((field ≡ codes "-") × (bytes ≡ [])) ⊎ (decode_of field ≡ Ok bytes)
+
+-- a number of at most 20 digits
+abbrev pub IsDigits : List ℕ → Type 0
+IsDigits field = IsTrue (list_all is_ascii_digit field) × (length field ≤ 20)
+
+-- the number that the digits stand for
+abbrev pub IsNumber : List ℕ → ℕ → Type 0
+IsNumber field n = IsDigits field × (n ≡ digits_value 10 field)
+
+-- a list of numbers, each by its size little-endian bytes
+abbrev pub IsListOf : Width → ℕ → List ℕ → List ℕ → Type 0
+IsListOf w size field numbers = (bytes : List ℕ) × IsHexOf field bytes × (length bytes % size ≡ 0)
+    × (numbers ≡ map (from_le_bytes w) (first_chunks size (length bytes / size) bytes))

@@ -1,17 +1,37 @@
 // The fields of a request line, which stand one space apart.
-ghost use Rattle.std.specs.Prelude.{◌≡◌, ◌≤◌, ◌↔◌, IsOk, IfOk, OnOk, List, ℕ, length};
+ghost use Rattle.std.specs.Prelude.{◌≡◌, ◌≤◌, ◌↔◌, IsOk, IfOk, OnOk, List, ℕ, length, map, from_bits};
+ghost use Rattle.std.specs.Float.{binary64};
+ghost use Rattle.std.specs.Char.{is_ascii_digit};
+ghost use Rattle.std.specs.Int.{from_bool};
+ghost use Rattle.std.specs.List.{list_all};
+ghost use mir.Syntax.{w16, w64};
 ghost use Rattle.lists.specs.Written.{each};
 
 use crate::element::{Element, LONGEST};
 use crate::error::ProbeError;
 use crate::lent::lent;
-use std::alloc::Global;
+use std::alloc::{AllocError, Global};
 use std::str::FromStr;
 
 // The most elements of a slice that are lent, and of a list; the most of a preamble.
 pub const LENT: usize = 64;
 
 pub const PREAMBLE: usize = 256;
+
+fn all_digits(text: &str) -> bool
+    ensures { result ≡ list_all is_ascii_digit text.now }
+{
+    text.bytes().all(|byte| byte.is_ascii_digit())
+}
+
+// The floats of these bits.
+fn floats(alloc: Global, bits: &[u64]) -> Result<Vec<f64>, AllocError>
+    ensures { IfOk result (λ v. v.items ≡ map (from_bits binary64) bits.now) }
+{
+    bits.iter()
+        .map(|bits| float_bits::f64_of_bits(*bits))
+        .collect(alloc)
+}
 
 // What is left of a line: nothing once its last field was read. After an error more fields are not to be read.
 #[derive(Clone, Copy)]
@@ -21,9 +41,11 @@ pub struct Fields<'a> {
 }
 
 impl<'a> Fields<'a> {
-    ghost use Rattle.probe_text.specs.Fields.{Reads, ReadsOne, IsHexOf};
+    ghost use Rattle.probe_text.specs.Fields.{Reads, ReadsOne, IsDigits, IsHexOf, IsListOf, IsNumber};
 
-    pub fn new(alloc: Global, line: &'a str) -> Fields<'a> {
+    pub fn new(alloc: Global, line: &'a str) -> Fields<'a>
+        ensures { result.rest ≡ Some line.entry }
+    {
         Fields {
             alloc,
             rest: Some(line),
@@ -49,17 +71,17 @@ impl<'a> Fields<'a> {
     pub fn number<T: FromStr>(&mut self) -> Result<T, ProbeError>
     where
         T::Err: Drop,
-        ensures { IfOk result (λ x. (field : List ℕ) × Reads self.old.rest field self.new.rest × T.from_str_gives field (Ok x)) }
+        ensures { IfOk result (λ x. (field : List ℕ) × Reads self.old.rest field self.new.rest × IsDigits field × T.from_str_gives field (Ok x)) }
     {
         let digits = self.text()?;
-        if 20 < digits.len() || !digits.bytes().all(|digit| digit.is_ascii_digit()) {
+        if 20 < digits.len() || !all_digits(digits) {
             return Err(ProbeError::Malformed);
         }
         digits.parse().map_err(|_| ProbeError::Malformed)
     }
 
     pub fn at_most(&mut self, most: u64) -> Result<u64, ProbeError>
-        ensures reads { OnOk result (ReadsOne self.old.rest self.new.rest) }
+        ensures reads { IfOk result (λ n. (field : List ℕ) × Reads self.old.rest field self.new.rest × IsNumber field n) }
         ensures bound { IfOk result (λ n. n ≤ most) }
     {
         let n = self.number()?;
@@ -70,7 +92,7 @@ impl<'a> Fields<'a> {
     }
 
     pub fn flag(&mut self) -> Result<bool, ProbeError>
-        ensures { OnOk result (ReadsOne self.old.rest self.new.rest) }
+        ensures { IfOk result (λ value. (field : List ℕ) × Reads self.old.rest field self.new.rest × IsNumber field (from_bool value)) }
     {
         Ok(self.at_most(1)? == 1)
     }
@@ -103,7 +125,7 @@ impl<'a> Fields<'a> {
 
     // A list of numbers by their little-endian bytes.
     pub fn u64s(&mut self) -> Result<Vec<u64>, ProbeError>
-        ensures reads { OnOk result (ReadsOne self.old.rest self.new.rest) }
+        ensures reads { IfOk result (λ v. (field : List ℕ) × Reads self.old.rest field self.new.rest × IsListOf w64 8 field v.items) }
         ensures bound { IfOk result (λ v. length v.items ≤ LENT) }
     {
         let bytes = self.bytes_at_most(8 * LENT)?;
@@ -120,7 +142,7 @@ impl<'a> Fields<'a> {
     }
 
     pub fn u16s(&mut self) -> Result<Vec<u16>, ProbeError>
-        ensures reads { OnOk result (ReadsOne self.old.rest self.new.rest) }
+        ensures reads { IfOk result (λ v. (field : List ℕ) × Reads self.old.rest field self.new.rest × IsListOf w16 2 field v.items) }
         ensures bound { IfOk result (λ v. length v.items ≤ LENT) }
     {
         let bytes = self.bytes_at_most(2 * LENT)?;
@@ -138,21 +160,16 @@ impl<'a> Fields<'a> {
 
     // A list of floats by their bits.
     pub fn f64s(&mut self) -> Result<Vec<f64>, ProbeError>
-        ensures reads { OnOk result (ReadsOne self.old.rest self.new.rest) }
+        ensures reads { IfOk result (λ v. (field : List ℕ) × Reads self.old.rest field self.new.rest × (numbers : List ℕ) × IsListOf w64 8 field numbers × (v.items ≡ map (from_bits binary64) numbers)) }
         ensures bound { IfOk result (λ v. length v.items ≤ LENT) }
     {
-        let bits = self.u64s()?;
-        Ok(
-            bits.iter()
-                .map(|bits| float_bits::f64_of_bits(*bits))
-                .collect(self.alloc)?,
-        )
+        Ok(floats(self.alloc, &self.u64s()?)?)
     }
 
     // A lent length, and the slice that is lent.
     pub fn lent<T: Element>(&mut self, most: usize) -> Result<Vec<T>, ProbeError>
         requires { most ≤ LONGEST }
-        ensures reads { OnOk result (ReadsOne self.old.rest self.new.rest) }
+        ensures reads { IfOk result (λ v. (field : List ℕ) × Reads self.old.rest field self.new.rest × IsNumber field (length v.items)) }
         ensures bound { IfOk result (λ v. length v.items ≤ most) }
         ensures items { IfOk result (λ v. v.items ≡ each T.filler_at (length v.items)) }
     {
