@@ -1,7 +1,7 @@
 -- How a line is cut into its fields.
-use Rattle.std.specs.Prelude.{ℕ, ◌≡◌, ◌==◌, ◌<◌, ◌≤◌, ◌/◌, ◌%◌, Bool, List, Option, Some, None, Ok, ◌⊎◌, [], codes, length, map, IsTrue}
-use Rattle.std.specs.List.{position_or_len, before_first, after_first, list_all}
-use Rattle.std.specs.Char.{is_ascii_digit}
+use Rattle.std.specs.Prelude.{ℕ, ◌≡◌, ◌==◌, ◌<◌, ◌≤◌, ◌/◌, ◌%◌, Bool, false, List, Option, Some, None, Ok, ◌⊎◌, [], codes, length, map, IsTrue}
+use Rattle.std.specs.List.{position_or_len, before_first, after_first, list_all, list_any}
+use Rattle.std.specs.Char.{is_ascii_digit, is_ascii_uppercase}
 use Rattle.std.specs.Int.{from_le_bytes}
 use Rattle.std.specs.Simd.{first_chunks}
 use Rattle.std.specs.Str.Parse.{digits_value}
@@ -24,9 +24,10 @@ Reads (Some line) field None = (position_or_len is_space line.now ≡ length lin
 abbrev pub ReadsOne : Option (Bor (List ℕ)) → Option (Bor (List ℕ)) → Type 0
 ReadsOne before after = (field : List ℕ) × Reads before field after
 
--- what a field of bytes stands for: `-` for none
+-- what a field of bytes stands for: `-` for none, and else two digits of lower case for each
 abbrev pub IsHexOf : List ℕ → List ℕ → Type 0
-IsHexOf field bytes = ((field ≡ codes "-") × (bytes ≡ [])) ⊎ (decode_of field ≡ Ok bytes)
+IsHexOf field bytes = ((field ≡ codes "-") × (bytes ≡ []))
+    ⊎ ((0 < length field) × (list_any is_ascii_uppercase field ≡ false) × (decode_of field ≡ Ok bytes))
 
 -- a number of at most 20 digits
 abbrev pub IsDigits : List ℕ → Type 0

@@ -1,9 +1,9 @@
 // The fields of a request line, which stand one space apart.
-ghost use Rattle.std.specs.Prelude.{◌≡◌, ◌≤◌, ◌↔◌, IsOk, IfOk, OnOk, List, ℕ, length, map, from_bits};
+ghost use Rattle.std.specs.Prelude.{◌≡◌, ◌≤◌, ◌↔◌, IsOk, IsSome, IfOk, OnOk, List, ℕ, length, map, from_bits};
 ghost use Rattle.std.specs.Float.{binary64};
-ghost use Rattle.std.specs.Char.{is_ascii_digit};
+ghost use Rattle.std.specs.Char.{is_ascii_digit, is_ascii_uppercase};
 ghost use Rattle.std.specs.Int.{from_bool};
-ghost use Rattle.std.specs.List.{list_all};
+ghost use Rattle.std.specs.List.{list_all, list_any};
 ghost use mir.Syntax.{w16, w64};
 ghost use Rattle.lists.specs.Written.{each};
 
@@ -22,6 +22,12 @@ fn all_digits(text: &str) -> bool
     ensures { result ≡ list_all is_ascii_digit text.now }
 {
     text.bytes().all(|byte| byte.is_ascii_digit())
+}
+
+fn has_upper_case(text: &str) -> bool
+    ensures { result ≡ list_any is_ascii_uppercase text.now }
+{
+    text.bytes().any(|byte| byte.is_ascii_uppercase())
 }
 
 // The floats of these bits.
@@ -54,7 +60,8 @@ impl<'a> Fields<'a> {
 
     // The next field as it stands.
     pub fn text(&mut self) -> Result<&'a str, ProbeError>
-        ensures { IfOk result (λ field. Reads self.old.rest field.now self.new.rest) }
+        ensures reads { IfOk result (λ field. Reads self.old.rest field.now self.new.rest) }
+        ensures succeeds { IsOk result ↔ IsSome self.old.rest }
     {
         let Some(rest) = self.rest else {
             return Err(ProbeError::Malformed);
@@ -105,7 +112,7 @@ impl<'a> Fields<'a> {
         if digits == "-" {
             return Ok(Vec::new(self.alloc));
         }
-        if digits.is_empty() || digits.bytes().any(|digit| digit.is_ascii_uppercase()) {
+        if digits.is_empty() || has_upper_case(digits) {
             return Err(ProbeError::Malformed);
         }
         Ok(hex::decode(self.alloc, digits)?)
@@ -173,11 +180,11 @@ impl<'a> Fields<'a> {
         ensures bound { IfOk result (λ v. length v.items ≤ most) }
         ensures items { IfOk result (λ v. v.items ≡ each T.filler_at (length v.items)) }
     {
-        let n: usize = self.number()?;
-        if most < n {
+        let len: usize = self.number()?;
+        if most < len {
             return Err(ProbeError::Malformed);
         }
-        Ok(lent(self.alloc, n)?)
+        Ok(lent(self.alloc, len)?)
     }
 
     // Whether all fields were read.

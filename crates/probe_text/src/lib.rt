@@ -11,3 +11,6 @@ pub use answer::Answer;
 pub use element::Element;
 pub use error::ProbeError;
 pub use fields::Fields;
+
+#[cfg(test)]
+mod tests;
