@@ -26,10 +26,12 @@ pub(crate) fn serve<R: BufRead, W: Write>(
     to: &mut W,
 ) -> io::Result<()> {
     let mut answer = Answer::new(alloc);
+    // A loop needs an end, and no input has as many lines.
     for _ in 0..u64::MAX {
         let Some(line) = next_line(alloc, from)? else {
             break;
         };
+        // What is malformed is answered too, so only memory can be short here.
         answer_line(alloc, &line, &mut answer).map_err(|_| AllocError)?;
         let _ = to.write_all(answer.as_str().as_bytes());
     }
