@@ -1,5 +1,5 @@
 -- `calibration::write_chunk` meets its contract: the room is tested, and what is worked out once gives each bin's m/z.
-use Rattle.std.proofs.Common.{◌+◌, ◌*◌, sym, ◌∙◌}
+use Rattle.std.proofs.Common.{◌+◌, ◌*◌, ◌∷◌, [], length, sym, ◌∙◌}
 use Rattle.parser.specs.Parser.{f32_at}
 use Rattle.lists.proofs.Left.{fits_true, pairs_no_room}
 use Rattle.lists.proofs.Laws.{length-each}
