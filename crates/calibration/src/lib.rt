@@ -21,7 +21,8 @@ pub struct Bins {
     pub step: u64,
 }
 
-// What the number of coefficients says, with A, B and C. It is worked out once for all bins of a chunk.
+// What the number of coefficients says, with A, B and C. It is worked out once for all bins of a chunk. Two of four cases hold nothing,
+// which no `Option` says.
 #[derive(Clone, Copy)]
 enum Conversion {
     // What is stored is m/z already (ion trap).

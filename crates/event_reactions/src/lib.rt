@@ -57,7 +57,7 @@ fn record_count(body: &[u8], at: u64, from: u64) -> u64
     }
 }
 
-// How many of the first n records are kept.
+// How many of the first n records are kept. Counting and writing walk the records alike, since nothing is written before the room is judged.
 fn count_kept(body: &[u8], from: u64, n: u64) -> u64
     requires { (from ≤ 8) × (n * 32 ≤ length body.now) }
     ensures { result ≡ length (kept body.now from n) }

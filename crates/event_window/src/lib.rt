@@ -8,14 +8,15 @@ ghost use Rattle.event_window.specs.Window.{window_of, first_window, candidates}
 use float_bits::{f64_of_bits, is_finite};
 use reader::{remaining, u64_at};
 
-// An enum of our own, and no `Option`: it is named with its cases in what the customer ordered.
+// An enum of its own, and no `Option`, as document 01 names it with these cases.
 #[derive(Clone, Copy)]
 pub enum Window {
     Absent,
     Ends(f64, f64),
 }
 
-// A window, the bits of its ends, and its offset in the body; 0 where it is absent, as the count word's place is sought by the number.
+// A window, the bits of its ends, and its offset in the body; 0 where it is absent: the bits are kept as the record's fields, and the count word's place is sought by
+// the offset as a number.
 #[derive(Clone, Copy)]
 pub struct FoundWindow {
     pub window: Window,

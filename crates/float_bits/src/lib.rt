@@ -1,8 +1,8 @@
 // Floats and their bit patterns, in the terms of std's Float: `from_bits f b` is the value of the pattern b in
 // the format f, and `to_bits f x` the pattern of x. There is one NaN: every NaN pattern is read as it, and
 // it is written as 0x7ff8_0000_0000_0000, in an `f32` as 0x7fc0_0000.
-// Each function stands for both formats: a trait over them would be longer than the four pairs of one line each. What is worked out from
-// bits here, and not by std's method, is so by the customer's order.
+// Each function stands for both formats: a trait over them would be longer than the four pairs of one line each. `is_finite` and
+// `absolute` are worked out from bits, as document 01 says of them, and not by std's methods.
 #![tactic(auto)]
 
 ghost use Rattle.std.specs.Prelude.{◌≡◌, from_bits, is_nan, to_bits};

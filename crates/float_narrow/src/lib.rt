@@ -1,4 +1,5 @@
-// From an f64 to the nearest f32, a tie to the even one (`as f32`), worked out from the bits.
+// From an f64 to the nearest f32, a tie to the even one (`as f32`), worked out from the bits, as document 01 says of it, and not by a
+// cast.
 #![tactic(auto)]
 
 ghost use Rattle.std.specs.Prelude.{◌≡◌, ◌^◌, ◌<◌};

@@ -16,7 +16,8 @@ use refusal::Refusal;
 use text::write;
 
 // Every `append` function writes from a place on and answers the place after what it wrote, where the next one goes on. Who
-// calls it has judged the room: nothing is written after the slice's end, and what comes back then says nothing.
+// calls it has judged the room: nothing is written after the slice's end, and what comes back then says nothing. There is no heap here, and
+// a struct of slice and place would need a clause in each method that it still refers to the slice.
 fn append(byte: u8, at: usize, out: &mut [u8]) -> usize
     ensures { Appends (byte ∷ []) at out.old result out.new }
 {

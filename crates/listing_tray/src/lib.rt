@@ -48,7 +48,7 @@ fn write_listed(
     write_scan_lines(k, coefficients, &mz[..n], &intensity[..n], out)
 }
 
-// The lines of scan k of a run, whose event stands at this place.
+// The lines of scan k of a run, whose event stands at this place. There is no heap: the arrays are a listing's limits.
 pub fn list_scan(run: &[u8], at: u64, h: TrayHeader, k: u32, out: &mut [u8]) -> ListedScan
     ensures left_list { LeftList (scan_text (format_in h) k (scan_at capacities h k at run.now)) out.old result.written out.new }
     ensures next_value { result.next ≡ place_or_end (end_in h at run.now) }

@@ -12,7 +12,7 @@ ghost use Rattle.packet_record.specs.Packet.{contents_at, with_labels, record_of
 use lists::fits;
 use packet_header::PacketHeader;
 use packet_labels::{Labels, read_labels};
-use packet_peak_list::{PeakList, item_size};
+use packet_peak_list::PeakList;
 use packet_profile::Profile;
 use reader::{copy, saturating_add};
 use refusal::Refusal;

@@ -47,7 +47,7 @@ pub struct Fields<'a> {
 }
 
 impl<'a> Fields<'a> {
-    ghost use Rattle.probe_text.specs.Fields.{Reads, ReadsOne, IsDigits, IsHexOf, IsListOf, IsNumber};
+    ghost use Rattle.probe_text.specs.Fields.{Reads, IsDigits, IsHexOf, IsListOf, IsNumber};
 
     pub fn new(alloc: Global, line: &'a str) -> Fields<'a>
         ensures { result.rest ≡ Some line.entry }
@@ -175,13 +175,12 @@ impl<'a> Fields<'a> {
 
     // A lent length, and the slice that is lent.
     pub fn lent<T: Element>(&mut self, most: usize) -> Result<Vec<T>, ProbeError>
-        requires { most ≤ LONGEST }
         ensures reads { IfOk result (λ v. (field : List ℕ) × Reads self.old.rest field self.new.rest × IsNumber field (length v.items)) }
         ensures bound { IfOk result (λ v. length v.items ≤ most) }
         ensures items { IfOk result (λ v. v.items ≡ each T.filler_at (length v.items)) }
     {
         let len: usize = self.number()?;
-        if most < len {
+        if most.min(LONGEST) < len {
             return Err(ProbeError::Malformed);
         }
         Ok(lent(self.alloc, len)?)

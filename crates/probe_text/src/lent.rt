@@ -5,7 +5,7 @@ ghost use Rattle.lists.specs.Written.{each};
 use crate::element::{Element, LONGEST};
 use std::alloc::{AllocError, Global};
 
-pub fn lent<T: Element>(alloc: Global, n: usize) -> Result<Vec<T>, AllocError>
+pub(crate) fn lent<T: Element>(alloc: Global, n: usize) -> Result<Vec<T>, AllocError>
     requires { n ≤ LONGEST }
     ensures items { IfOk result (λ v. v.items ≡ each T.filler_at n) }
     ensures len { IfOk result (λ v. length v.items ≡ n) }

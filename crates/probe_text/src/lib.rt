@@ -5,7 +5,7 @@ pub mod answer;
 pub mod element;
 pub mod error;
 pub mod fields;
-pub mod lent;
+pub(crate) mod lent;
 
 pub use answer::Answer;
 pub use element::Element;

@@ -35,7 +35,7 @@ pub(crate) fn counted_list(fields: &mut Fields, answer: &mut Answer) -> Result<(
     answer.number(beyond)
 }
 
-// A NaN has many patterns and one value, so only another number's bits go by way of its value.
+// For each format: a NaN has many patterns and one value, so only another number's bits go by way of its value.
 fn bits_again64(bits: u64) -> u64 {
     if float_bits::is_nan64(bits) {
         bits

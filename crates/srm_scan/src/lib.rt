@@ -61,7 +61,7 @@ pub fn read_scan_srm_v66(
     write_peaks(run, row, mz, abundance)
 }
 
-// n windows, where the slices hold them.
+// n windows, where the slices hold them: two columns, which are no row of peaks.
 fn write_windows(
     run: &[u8],
     at: u64,

@@ -1,6 +1,6 @@
 -- The data of a scan, by the format of its run: a packet, flat peaks or an SRM scan; and the pairs that they give.
 use Rattle.std.specs.Prelude.{ℕ, false, List, [], Some, None, Option}
-use Rattle.refusal.specs.Outcome.{Outcome, ok, refused, on_ok}
+use Rattle.refusal.specs.Outcome.{Outcome, refused, on_ok}
 use Rattle.parser.specs.Parser.{Parser, done, ◌>>=◌, saturating_add}
 use Rattle.scan_format.specs.declared.ScanDataFormat.{ScanDataFormat}
 use Rattle.scan_format.specs.declared.ScanDataFormat.TheVariants.{PacketHeader, FlatV63, FlatV66}
