@@ -21,9 +21,6 @@ Reads (Some line) field (Some after) =
     × (after.now ≡ after_first is_space line.now)
 Reads (Some line) field None = (position_or_len is_space line.now ≡ length line.now) × (field ≡ line.now)
 
-abbrev pub ReadsOne : Option (Bor (List ℕ)) → Option (Bor (List ℕ)) → Type 0
-ReadsOne before after = (field : List ℕ) × Reads before field after
-
 -- what a field of bytes stands for: `-` for none, and else two digits of lower case for each
 abbrev pub IsHexOf : List ℕ → List ℕ → Type 0
 IsHexOf field bytes = ((field ≡ codes "-") × (bytes ≡ []))

@@ -1,6 +1,7 @@
 // Why a line is not answered as a request.
 ghost use Rattle.std.specs.Prelude.{◌≡◌};
 ghost use Rattle.probe_text.specs.Errors.{of_hex};
+ghost use Rattle.probe_text.specs.declared.error.ProbeError.TheVariants.{OutOfMemory};
 
 use hex::FromHexError;
 use std::alloc::{AllocError, AllocFailed};
@@ -11,8 +12,6 @@ pub enum ProbeError {
     Malformed,
     OutOfMemory,
 }
-
-ghost use Rattle.probe_text.specs.declared.error.ProbeError.TheVariants.{OutOfMemory};
 
 impl From<AllocError> for ProbeError {
     ghost from_gives = { λ _ e. e ≡ OutOfMemory };
