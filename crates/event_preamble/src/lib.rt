@@ -24,6 +24,8 @@ pub fn size_for_version(version: u32) -> u64
     }
 }
 
+// The codes stay numbers: the writer of events compares them with those that the bytes give, a number without a name
+// among them, and an enum of names could hold none of those.
 #[derive(Clone, Copy, PartialEq, Eq)]
 pub struct ScanEventPreamble {
     pub polarity: Option<u32>,
