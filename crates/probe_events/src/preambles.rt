@@ -1,4 +1,7 @@
 // Preambles of scan events: the crate `event_preamble`.
+ghost use Rattle.std.specs.Prelude.{◌≡◌, ◌++◌, OnOk};
+ghost use Rattle.probe_events.specs.Text.{code as code_text, with_activation, with_settings};
+
 use codes::Activation;
 use event_preamble::ScanEventPreamble;
 use probe_text::{Answer, Fields, ProbeError};
@@ -10,7 +13,9 @@ pub(crate) fn preamble_size(fields: &mut Fields, answer: &mut Answer) -> Result<
 }
 
 // A code as one field.
-fn put_code(answer: &mut Answer, code: Option<u32>) -> Result<(), ProbeError> {
+fn put_code(answer: &mut Answer, code: Option<u32>) -> Result<(), ProbeError>
+    ensures { OnOk result (answer.new ≡ answer.old ++ code_text code) }
+{
     match code {
         Some(code) => answer.number(code),
         None => answer.put(" -"),
@@ -18,10 +23,9 @@ fn put_code(answer: &mut Answer, code: Option<u32>) -> Result<(), ProbeError> {
 }
 
 // An activation as one field.
-pub(crate) fn put_activation(
-    answer: &mut Answer,
-    activation: Activation,
-) -> Result<(), ProbeError> {
+pub(crate) fn put_activation(answer: &mut Answer, activation: Activation) -> Result<(), ProbeError>
+    ensures { OnOk result (answer.new ≡ with_activation answer.old activation) }
+{
     match activation {
         Activation::None => answer.number(0u64),
         Activation::HCD => answer.number(1u64),
@@ -39,7 +43,9 @@ pub(crate) fn put_activation(
 pub(crate) fn put_settings(
     answer: &mut Answer,
     settings: ScanEventPreamble,
-) -> Result<(), ProbeError> {
+) -> Result<(), ProbeError>
+    ensures { OnOk result (answer.new ≡ with_settings answer.old settings) }
+{
     put_code(answer, settings.polarity)?;
     put_code(answer, settings.scan_mode)?;
     put_code(answer, settings.ms_power)?;

@@ -1,4 +1,7 @@
 // Scan events: the crates `events` and `event_counted`.
+ghost use Rattle.std.specs.Prelude.{◌≡◌, ◌≤◌, IfOk, OnOk, length};
+ghost use Rattle.probe_events.specs.Text.{with_event, with_slices, with_window};
+
 use crate::preambles;
 use event_counted::read_counted_v66;
 use event_record::{EventAndNext, ScanEvent};
@@ -17,7 +20,9 @@ pub struct EventSlices {
 }
 
 impl EventSlices {
-    pub fn lent(fields: &mut Fields) -> Result<EventSlices, ProbeError> {
+    pub fn lent(fields: &mut Fields) -> Result<EventSlices, ProbeError>
+        ensures { IfOk result (λ s. (length s.preamble.items ≤ 256) × (length s.precursors.items ≤ 64) × (length s.energies.items ≤ 64) × (length s.coefficients.items ≤ 64)) }
+    {
         Ok(EventSlices {
             preamble: fields.lent(PREAMBLE)?,
             precursors: fields.lent(LENT)?,
@@ -26,7 +31,9 @@ impl EventSlices {
         })
     }
 
-    pub fn put(&self, answer: &mut Answer) -> Result<(), ProbeError> {
+    pub fn put(&self, answer: &mut Answer) -> Result<(), ProbeError>
+        ensures { OnOk result (answer.new ≡ with_slices answer.old self.now.preamble.items self.now.precursors.items self.now.energies.items self.now.coefficients.items) }
+    {
         answer.slice(&self.preamble)?;
         answer.slice(&self.precursors)?;
         answer.slice(&self.energies)?;
@@ -35,7 +42,9 @@ impl EventSlices {
 }
 
 // Whether there is a window, and its floats.
-fn put_window(answer: &mut Answer, window: Window) -> Result<(), ProbeError> {
+fn put_window(answer: &mut Answer, window: Window) -> Result<(), ProbeError>
+    ensures { OnOk result (answer.new ≡ with_window answer.old window) }
+{
     match window {
         Window::Absent => {
             answer.flag(false)?;
@@ -51,7 +60,9 @@ fn put_window(answer: &mut Answer, window: Window) -> Result<(), ProbeError> {
 }
 
 // The fields of an event, and the place after it.
-pub fn put_event(answer: &mut Answer, event: ScanEvent, next: u64) -> Result<(), ProbeError> {
+pub fn put_event(answer: &mut Answer, event: ScanEvent, next: u64) -> Result<(), ProbeError>
+    ensures { OnOk result (answer.new ≡ with_event answer.old event next) }
+{
     answer.number(event.preamble_len)?;
     answer.number(event.reactions)?;
     answer.number(event.coefficients)?;

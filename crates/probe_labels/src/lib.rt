@@ -1,6 +1,8 @@
 // Answers the requests on noise and labels: the crates `float_narrow`, `noise` and `packet_noise`.
 #![tactic(auto)]
 
+ghost use Rattle.std.specs.Prelude.{◌≡◌, Ok, false};
+
 use float_bits::{bits_of_f32, f64_of_bits};
 use float_narrow::narrowed;
 use noise::{label_peaks, noise_at};
@@ -129,12 +131,11 @@ fn packet_labels(fields: &mut Fields, answer: &mut Answer) -> Result<(), ProbeEr
     lent.put(answer)
 }
 
-// Answers a request by its word and the fields after that: whether the word is one of these.
-pub fn try_answer(
-    word: &str,
-    fields: &mut Fields,
-    answer: &mut Answer,
-) -> Result<bool, ProbeError> {
+// Answers a request by its word and the fields after that: whether the word is one of these. Where it is none, the fields
+// and the answer stay as they were, for the next crate that is asked.
+pub fn try_answer(word: &str, fields: &mut Fields, answer: &mut Answer) -> Result<bool, ProbeError>
+    ensures { result ≡ Ok false → (fields.new ≡ fields.old) × (answer.new ≡ answer.old) }
+{
     match word {
         "narrow" => narrow(fields, answer)?,
         "noise" => noise(fields, answer)?,

@@ -1,6 +1,8 @@
 // Answers the requests on packets with the lists that they hand out: the crates `packet_skipping` and `packet_full`.
 #![tactic(auto)]
 
+ghost use Rattle.std.specs.Prelude.{◌≡◌, Ok, false};
+
 use packet_full::read_packet;
 use packet_profile::Profile;
 use packet_record::ScanDataPacket;
@@ -118,12 +120,11 @@ fn packet(fields: &mut Fields, answer: &mut Answer) -> Result<(), ProbeError> {
     answer.slice(&signal)
 }
 
-// Answers a request by its word and the fields after that: whether the word is one of these.
-pub fn try_answer(
-    word: &str,
-    fields: &mut Fields,
-    answer: &mut Answer,
-) -> Result<bool, ProbeError> {
+// Answers a request by its word and the fields after that: whether the word is one of these. Where it is none, the fields
+// and the answer stay as they were, for the next crate that is asked.
+pub fn try_answer(word: &str, fields: &mut Fields, answer: &mut Answer) -> Result<bool, ProbeError>
+    ensures { result ≡ Ok false → (fields.new ≡ fields.old) × (answer.new ≡ answer.old) }
+{
     match word {
         "skip_profile" => skip_profile(fields, answer)?,
         "packet" => packet(fields, answer)?,

@@ -1,13 +1,18 @@
 // Answers the requests on headers and places of scan data packets: the crates `packet_header` and `packet_places`.
 #![tactic(auto)]
 
+ghost use Rattle.std.specs.Prelude.{◌≡◌, Ok, OnOk, false};
+ghost use Rattle.probe_packets.specs.Text.{with_header};
+
 use packet_header::PacketHeader;
 use packet_labels::Labels;
 use packet_profile::Profile;
 use packet_record::PacketPlaces;
 use probe_text::{Answer, Fields, ProbeError};
 
-pub fn put_header(answer: &mut Answer, header: PacketHeader) -> Result<(), ProbeError> {
+pub fn put_header(answer: &mut Answer, header: PacketHeader) -> Result<(), ProbeError>
+    ensures { OnOk result (answer.new ≡ with_header answer.old header) }
+{
     answer.ok_number(header.profile_size)?;
     answer.number(header.peak_list_size)?;
     answer.number(header.layout)?;
@@ -65,12 +70,11 @@ fn find_places(fields: &mut Fields, answer: &mut Answer) -> Result<(), ProbeErro
     }
 }
 
-// Answers a request by its word and the fields after that: whether the word is one of these.
-pub fn try_answer(
-    word: &str,
-    fields: &mut Fields,
-    answer: &mut Answer,
-) -> Result<bool, ProbeError> {
+// Answers a request by its word and the fields after that: whether the word is one of these. Where it is none, the fields
+// and the answer stay as they were, for the next crate that is asked.
+pub fn try_answer(word: &str, fields: &mut Fields, answer: &mut Answer) -> Result<bool, ProbeError>
+    ensures { result ≡ Ok false → (fields.new ≡ fields.old) × (answer.new ≡ answer.old) }
+{
     match word {
         "packet_header" => packet_header(fields, answer)?,
         "find_places" => find_places(fields, answer)?,

@@ -1,6 +1,8 @@
 // Answers the requests on pairs of m/z and intensity: the crates `calibration`, `packet_profile` and `pairs`.
 #![tactic(auto)]
 
+ghost use Rattle.std.specs.Prelude.{◌≡◌, Ok, false};
+
 use float_bits::f64_of_bits;
 use packet_profile::Profile;
 use pairs::to_mz_intensity;
@@ -43,12 +45,11 @@ fn pairs(fields: &mut Fields, answer: &mut Answer) -> Result<(), ProbeError> {
     answer.slice(&intensity)
 }
 
-// Answers a request by its word and the fields after that: whether the word is one of these.
-pub fn try_answer(
-    word: &str,
-    fields: &mut Fields,
-    answer: &mut Answer,
-) -> Result<bool, ProbeError> {
+// Answers a request by its word and the fields after that: whether the word is one of these. Where it is none, the fields
+// and the answer stay as they were, for the next crate that is asked.
+pub fn try_answer(word: &str, fields: &mut Fields, answer: &mut Answer) -> Result<bool, ProbeError>
+    ensures { result ≡ Ok false → (fields.new ≡ fields.old) × (answer.new ≡ answer.old) }
+{
     match word {
         "freq_to_mz" => freq_to_mz(fields, answer)?,
         "pairs" => pairs(fields, answer)?,

@@ -2,6 +2,8 @@
 // `srm_flat_peaks` and `srm_scan`.
 #![tactic(auto)]
 
+ghost use Rattle.std.specs.Prelude.{◌≡◌, Ok, false};
+
 use packet_peak_list::read_peaks_only;
 use probe_text::fields::LENT;
 use probe_text::{Answer, Fields, ProbeError};
@@ -104,12 +106,11 @@ fn find_srm(fields: &mut Fields, answer: &mut Answer) -> Result<(), ProbeError> 
     put_found(answer, find_srm_peaks(&run, data, offset))
 }
 
-// Answers a request by its word and the fields after that: whether the word is one of these.
-pub fn try_answer(
-    word: &str,
-    fields: &mut Fields,
-    answer: &mut Answer,
-) -> Result<bool, ProbeError> {
+// Answers a request by its word and the fields after that: whether the word is one of these. Where it is none, the fields
+// and the answer stay as they were, for the next crate that is asked.
+pub fn try_answer(word: &str, fields: &mut Fields, answer: &mut Answer) -> Result<bool, ProbeError>
+    ensures { result ≡ Ok false → (fields.new ≡ fields.old) × (answer.new ≡ answer.old) }
+{
     match word {
         "peaks" => peaks(fields, answer)?,
         "flat" => flat(fields, answer)?,

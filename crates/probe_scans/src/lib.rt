@@ -2,6 +2,9 @@
 // crates `scan_format`, `scan_index`, `tray_data` and `listing_pairs`.
 #![tactic(auto)]
 
+ghost use Rattle.std.specs.Prelude.{◌≡◌, Ok, OnOk, false};
+ghost use Rattle.probe_scans.specs.Text.{with_entry};
+
 use listing_pairs::keep_listed;
 use packet_profile::Profile;
 use peaks::PeakRow;
@@ -11,12 +14,11 @@ use scan_format::ScanDataFormat;
 use scan_index::ScanIndexEntry;
 use tray_data::ScanData;
 
-// Answers a request by its word and the fields after that: whether the word is one of these.
-pub fn try_answer(
-    word: &str,
-    fields: &mut Fields,
-    answer: &mut Answer,
-) -> Result<bool, ProbeError> {
+// Answers a request by its word and the fields after that: whether the word is one of these. Where it is none, the fields
+// and the answer stay as they were, for the next crate that is asked.
+pub fn try_answer(word: &str, fields: &mut Fields, answer: &mut Answer) -> Result<bool, ProbeError>
+    ensures { result ≡ Ok false → (fields.new ≡ fields.old) × (answer.new ≡ answer.old) }
+{
     match word {
         "entry" => entry(fields, answer)?,
         "entry_size" => entry_size(fields, answer)?,
@@ -70,7 +72,9 @@ fn entry_size(fields: &mut Fields, answer: &mut Answer) -> Result<(), ProbeError
     answer.ok_number(ScanIndexEntry::min_size_for_version(version))
 }
 
-pub fn put_entry(answer: &mut Answer, e: ScanIndexEntry) -> Result<(), ProbeError> {
+pub fn put_entry(answer: &mut Answer, e: ScanIndexEntry) -> Result<(), ProbeError>
+    ensures { OnOk result (answer.new ≡ with_entry answer.old e) }
+{
     answer.ok_number(e.index)?;
     answer.number(e.scan_event)?;
     answer.number(e.scan_segment)?;

@@ -1,6 +1,8 @@
 // Answers the requests on searches in a method's bytes: the crates `srm_transition` and `srm_channels`.
 #![tactic(auto)]
 
+ghost use Rattle.std.specs.Prelude.{◌≡◌, Ok, false};
+
 use float_bits::f64_of_bits;
 use probe_text::fields::LENT;
 use probe_text::{Answer, Fields, ProbeError};
@@ -46,12 +48,11 @@ fn channels(fields: &mut Fields, answer: &mut Answer) -> Result<(), ProbeError> 
     answer.slice(&energy)
 }
 
-// Answers a request by its word and the fields after that: whether the word is one of these.
-pub fn try_answer(
-    word: &str,
-    fields: &mut Fields,
-    answer: &mut Answer,
-) -> Result<bool, ProbeError> {
+// Answers a request by its word and the fields after that: whether the word is one of these. Where it is none, the fields
+// and the answer stay as they were, for the next crate that is asked.
+pub fn try_answer(word: &str, fields: &mut Fields, answer: &mut Answer) -> Result<bool, ProbeError>
+    ensures { result ≡ Ok false → (fields.new ≡ fields.old) × (answer.new ≡ answer.old) }
+{
     match word {
         "v63" => v63(fields, answer)?,
         "event_transition" => event_transition(fields, answer)?,

@@ -13,6 +13,10 @@ field n = 32 ∷ decimal n
 abbrev pub hex_digits : ℕ → ℕ → List ℕ
 hex_digits width n = padded_integral (format_spec 32 0 4 width (2 ^ 64 - 1)) false [] (digits 16 false n)
 
+-- bits after a space
+abbrev pub bits_field : ℕ → ℕ → List ℕ
+bits_field width n = 32 ∷ hex_digits width n
+
 -- the elements of a slice, each after a space
 abbrev pub elements : {A : Type 0} → ℕ → (A → ℕ) → List A → List ℕ
 elements width bits xs = flat_map (λ x. 32 ∷ hex_digits width (bits x)) xs

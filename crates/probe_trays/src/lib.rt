@@ -1,6 +1,8 @@
 // Answers the requests on scans of a tray and the places of their events: the crate `tray`.
 #![tactic(auto)]
 
+ghost use Rattle.std.specs.Prelude.{◌≡◌, Ok, false};
+
 use probe_events::scan_events;
 use probe_events::scan_events::EventSlices;
 use probe_scans::put_entry;
@@ -9,12 +11,11 @@ use probe_text::{Answer, Fields, ProbeError};
 use tray::{read_scan, read_scan_from};
 use tray_scan::Scan;
 
-// Answers a request by its word and the fields after that: whether the word is one of these.
-pub fn try_answer(
-    word: &str,
-    fields: &mut Fields,
-    answer: &mut Answer,
-) -> Result<bool, ProbeError> {
+// Answers a request by its word and the fields after that: whether the word is one of these. Where it is none, the fields
+// and the answer stay as they were, for the next crate that is asked.
+pub fn try_answer(word: &str, fields: &mut Fields, answer: &mut Answer) -> Result<bool, ProbeError>
+    ensures { result ≡ Ok false → (fields.new ≡ fields.old) × (answer.new ≡ answer.old) }
+{
     match word {
         "scan" => scan(fields, answer)?,
         "scan_from" => scan_from(fields, answer)?,
