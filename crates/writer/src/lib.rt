@@ -18,29 +18,42 @@ pub fn store_bytes(out: &mut [u8], at: u64, xs: &[u8])
     out[start..end].copy_from_slice(&xs[..end - start]);
 }
 
+// All of the bytes fit: one test, and a copy of a length that the compiler knows. Over the slice's end: what of them fits.
+fn store_array<const N: usize>(out: &mut [u8], at: u64, xs: [u8; N])
+    ensures { out.new ≡ sets out.old at xs.entry }
+{
+    let room = out.len() as u64;
+    if at <= room && N as u64 <= room - at {
+        let start = at as usize;
+        out[start..start + N].copy_from_slice(&xs);
+    } else {
+        store_bytes(out, at, &xs);
+    }
+}
+
 // A store for each width: one line each, where a trait over the widths would need as many to say their bytes.
 pub fn store_u8(out: &mut [u8], at: u64, x: u8)
     ensures { out.new ≡ sets out.old at (le_bytes 1 x) }
 {
-    store_bytes(out, at, &[x]);
+    store_array(out, at, [x]);
 }
 
 pub fn store_u16(out: &mut [u8], at: u64, x: u16)
     ensures { out.new ≡ sets out.old at (le_bytes 2 x) }
 {
-    store_bytes(out, at, &u16::to_le_bytes(x));
+    store_array(out, at, u16::to_le_bytes(x));
 }
 
 pub fn store_u32(out: &mut [u8], at: u64, x: u32)
     ensures { out.new ≡ sets out.old at (le_bytes 4 x) }
 {
-    store_bytes(out, at, &u32::to_le_bytes(x));
+    store_array(out, at, u32::to_le_bytes(x));
 }
 
 pub fn store_u64(out: &mut [u8], at: u64, x: u64)
     ensures { out.new ≡ sets out.old at (le_bytes 8 x) }
 {
-    store_bytes(out, at, &u64::to_le_bytes(x));
+    store_array(out, at, u64::to_le_bytes(x));
 }
 
 pub fn store_u64s(out: &mut [u8], at: u64, xs: &[u64])

@@ -12,4 +12,4 @@ returns c =
     let a = c.args in
     let one : a.x / 256 ^ 0 ≡ a.x = div-one a.x in
     let e = le_bytes-from 4 0 a.x in
-    c.store_bytes.ensures ∙ ap (sets a.out.now a.at) (c.to_le_bytes.ensures ∙ e ∙ ap (le_bytes 4) one)
+    c.store_array.ensures ∙ ap (sets a.out.now a.at) (c.to_le_bytes.ensures ∙ e ∙ ap (le_bytes 4) one)

@@ -7,4 +7,4 @@ use Rattle.writer.proofs.store_u8.Goals as goal
 
 pub returns : goal.returns
 unfolding le_bytes
-returns c = let a = c.args in let e : a.x % 256 ≡ a.x = omega arith in c.store_bytes.ensures ∙ rw e refl
+returns c = let a = c.args in let e : a.x % 256 ≡ a.x = omega arith in c.store_array.ensures ∙ rw e refl
