@@ -25,12 +25,13 @@ pub(crate) fn serve<R: BufRead, W: Write>(
     from: &mut R,
     to: &mut W,
 ) -> io::Result<()> {
+    let mut line = Vec::new(alloc);
     let mut answer = Answer::new(alloc);
     // A loop needs an end, and no input has as many lines.
     for _ in 0..u64::MAX {
-        let Some(line) = next_line(alloc, from)? else {
+        if !next_line(from, &mut line)? {
             break;
-        };
+        }
         // What is malformed is answered too, so only memory can be short here.
         answer_line(alloc, &line, &mut answer).map_err(|_| AllocError)?;
         let _ = to.write_all(answer.as_str().as_bytes());

@@ -82,15 +82,19 @@ fn labels(fields: &mut Fields, answer: &mut Answer) -> Result<(), ProbeError> {
     lent.put(answer)
 }
 
-// The packet at a place, and the masses of its peaks.
-fn packet_at(run: &[u8], place: u64, mz: &mut [u64; PEAKS]) -> Result<ScanDataPacket, Refusal> {
+// The packet at a place, of at most N peaks, and their masses.
+fn packet_at<const N: usize>(
+    run: &[u8],
+    place: u64,
+    mz: &mut [u64; N],
+) -> Result<ScanDataPacket, Refusal> {
     read_skip_profile(
         run,
         place,
         mz,
-        &mut [0u32; PEAKS],
-        &mut [0u32; PEAKS],
-        &mut [0u32; PEAKS],
+        &mut [0u32; N],
+        &mut [0u32; N],
+        &mut [0u32; N],
     )
 }
 
@@ -105,12 +109,11 @@ fn packet_noise(fields: &mut Fields, answer: &mut Answer) -> Result<(), ProbeErr
     }
 }
 
-// Labels for the peaks of the packet at a place.
+// Labels for the peaks of the packet at a place. More peaks than can be lent for are refused as those that no slice holds.
 fn label_packet(run: &[u8], place: u64, lent: &mut LabelSlices) -> Result<u64, Refusal> {
-    let mut mz = [0u64; PEAKS];
+    let mut mz = [0u64; LENT];
     let packet = packet_at(run, place, &mut mz)?;
-    // A packet of more peaks is refused.
-    let peaks = (packet.peaks as usize).min(PEAKS);
+    let peaks = (packet.peaks as usize).min(LENT);
     label_packet_peaks(
         run,
         packet,

@@ -1,17 +1,94 @@
 // The text of answers.
-ghost use Rattle.std.specs.Prelude.{◌≡◌, ℕ, ◌++◌, ◌∷◌, [], List, OnOk, MatchOption, string_bytes, codes, decimal};
+ghost use Rattle.std.specs.Prelude.{◌≡◌, ℕ, ◌<◌, ◌≤◌, ◌^◌, ◌++◌, ◌∷◌, [], List, OnOk, IsUtf8, MatchOption, false, string_bytes, codes, decimal};
 ghost use Rattle.std.specs.Int.{from_bool};
-ghost use Rattle.probe_text.specs.Answers.{bytes_field, count as count_of, elements, hex_digits, name as name_of, refused as refused_of};
+ghost use Rattle.std.specs.Fmt.{digit_glyph};
+ghost use Rattle.probe_text.specs.Answers.{bytes_field, count as count_of, elements, hex_bytes, hex_digits, name as name_of, refused as refused_of};
 
 use crate::element::Element;
 use crate::error::ProbeError;
 use refusal::Refusal;
-use std::alloc::Global;
+use std::alloc::{AllocError, Global};
 use std::marker::Model;
+use std::mem;
+
+// A digit below 16.
+fn glyph(digit: u8) -> u8
+    requires { digit < 16 }
+    ensures { result ≡ digit_glyph false digit }
+{
+    if digit < 10 {
+        b'0' + digit
+    } else {
+        b'a' + (digit - 10)
+    }
+}
+
+// Hexadecimal digits are most of what is printed, and `write!` takes many times as long.
+fn put_byte(bytes: &mut Vec<u8>, byte: u8) -> Result<(), AllocError>
+    ensures { OnOk result (bytes.new.items ≡ bytes.old.items ++ hex_digits 2 byte) }
+{
+    bytes.push(glyph(byte / 16))?;
+    bytes.push(glyph(byte % 16))?;
+    Ok(())
+}
+
+// A number that has no more digits than these.
+fn put_hex(bytes: &mut Vec<u8>, n: u64, width: usize) -> Result<(), AllocError>
+    requires digits { (0 < width) × (width ≤ 16) }
+    requires fits { n < 16 ^ width }
+    ensures { OnOk result (bytes.new.items ≡ bytes.old.items ++ hex_digits width n) }
+{
+    if width == 2 {
+        return put_byte(bytes, n as u8);
+    }
+    let mut digits = [0u8; 16];
+    let count = io::hex(n, width, &mut digits);
+    for &digit in &digits[..count] {
+        bytes.push(digit)?;
+    }
+    Ok(())
+}
+
+fn put_decimal(bytes: &mut Vec<u8>, n: u64) -> Result<(), AllocError>
+    ensures { OnOk result (bytes.new.items ≡ bytes.old.items ++ decimal n) }
+{
+    let mut digits = [0u8; 20];
+    let count = io::decimal(n, &mut digits);
+    for &digit in &digits[..count] {
+        bytes.push(digit)?;
+    }
+    Ok(())
+}
+
+fn put_element<T: Element>(bytes: &mut Vec<u8>, x: T) -> Result<(), AllocError>
+    ensures { OnOk result (bytes.new.items ≡ bytes.old.items ++ 32 ∷ hex_digits T.DIGITS (T.bits_of x)) }
+{
+    bytes.push(b' ')?;
+    put_hex(bytes, x.bits(), T::DIGITS)
+}
+
+fn put_elements<T: Element>(bytes: &mut Vec<u8>, xs: &[T]) -> Result<(), AllocError>
+    ensures { OnOk result (bytes.new.items ≡ bytes.old.items ++ elements T.DIGITS T.bits_of xs.now) }
+{
+    for &x in xs {
+        put_element(bytes, x)?;
+    }
+    Ok(())
+}
+
+fn put_bytes(bytes: &mut Vec<u8>, run: &[u8]) -> Result<(), AllocError>
+    ensures { OnOk result (bytes.new.items ≡ bytes.old.items ++ hex_bytes run.now) }
+{
+    for &byte in run {
+        put_byte(bytes, byte)?;
+    }
+    Ok(())
+}
 
 // The text of one line. What does not find memory is left out, and then the answer is not used.
 #[derive(Drop)]
 pub struct Answer {
+    alloc: Global,
     text: String,
 }
 
@@ -26,6 +103,7 @@ impl Answer {
         ensures { result ≡ [] }
     {
         Answer {
+            alloc,
             text: String::new(alloc),
         }
     }
@@ -48,12 +126,38 @@ impl Answer {
         Ok(self.text.push_str(text)?)
     }
 
+    // The text's bytes, of which nothing is left here.
+    fn take(&mut self) -> Vec<u8>
+        ensures items { result.items ≡ self.old }
+        ensures text { IsUtf8 result.items }
+    {
+        mem::replace(&mut self.text, String::new(self.alloc)).into_bytes()
+    }
+
+    fn decimal(&mut self, n: u64) -> Result<(), ProbeError>
+        ensures { OnOk result (self.new ≡ self.old ++ decimal n) }
+    {
+        let mut bytes = self.take();
+        put_decimal(&mut bytes, n)?;
+        self.text = unsafe { String::from_utf8_unchecked(bytes) };
+        Ok(())
+    }
+
+    fn field(&mut self, n: u64) -> Result<(), ProbeError>
+        ensures { OnOk result (self.new ≡ self.old ++ 32 ∷ decimal n) }
+    {
+        let mut bytes = self.take();
+        bytes.push(b' ')?;
+        put_decimal(&mut bytes, n)?;
+        self.text = unsafe { String::from_utf8_unchecked(bytes) };
+        Ok(())
+    }
+
     // A number with no space before it.
     pub fn put_number<N: Into<u64> + Drop>(&mut self, value: N) -> Result<(), ProbeError>
         ensures { OnOk result ((n : ℕ) × N.converts value n × (self.new ≡ self.old ++ decimal n)) }
     {
-        let value: u64 = value.into();
-        Ok(write!(self.text, "{value}")?)
+        self.decimal(value.into())
     }
 
     // What is no request.
@@ -79,8 +183,7 @@ impl Answer {
     pub fn number<N: Into<u64> + Drop>(&mut self, value: N) -> Result<(), ProbeError>
         ensures { OnOk result ((n : ℕ) × N.converts value n × (self.new ≡ self.old ++ 32 ∷ decimal n)) }
     {
-        let value: u64 = value.into();
-        Ok(write!(self.text, " {value}")?)
+        self.field(value.into())
     }
 
     pub fn flag(&mut self, value: bool) -> Result<(), ProbeError>
@@ -92,9 +195,10 @@ impl Answer {
     pub fn bits<T: Element>(&mut self, x: T) -> Result<(), ProbeError>
         ensures { OnOk result (self.new ≡ self.old ++ 32 ∷ hex_digits T.DIGITS (T.bits_of x)) }
     {
-        let bits = x.bits();
-        let width = T::DIGITS;
-        Ok(write!(self.text, " {bits:0width$x}")?)
+        let mut bytes = self.take();
+        put_element(&mut bytes, x)?;
+        self.text = unsafe { String::from_utf8_unchecked(bytes) };
+        Ok(())
     }
 
     pub fn ok_number<N: Into<u64> + Drop>(&mut self, value: N) -> Result<(), ProbeError>
@@ -148,9 +252,9 @@ impl Answer {
             return self.put(" -");
         }
         self.put(" ")?;
-        for byte in run {
-            write!(self.text, "{byte:02x}")?;
-        }
+        let mut bytes = self.take();
+        put_bytes(&mut bytes, run)?;
+        self.text = unsafe { String::from_utf8_unchecked(bytes) };
         Ok(())
     }
 
@@ -159,9 +263,9 @@ impl Answer {
         ensures { OnOk result (self.new ≡ self.old ++ codes " |" ++ elements T.DIGITS T.bits_of lent.now) }
     {
         self.put(" |")?;
-        for x in lent {
-            self.bits(*x)?;
-        }
+        let mut bytes = self.take();
+        put_elements(&mut bytes, lent)?;
+        self.text = unsafe { String::from_utf8_unchecked(bytes) };
         Ok(())
     }
 

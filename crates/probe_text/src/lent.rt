@@ -12,7 +12,7 @@ pub(crate) fn lent<T: Element>(alloc: Global, n: usize) -> Result<Vec<T>, AllocE
 {
     let mut lent = Vec::with_capacity(alloc, n)?;
     for i in 0..n {
-        lent.push(T::filler(i))?;
+        lent.push(T::filler(i as u16))?;
     }
     Ok(lent)
 }

@@ -1,29 +1,25 @@
 -- The line is the first piece of as many bytes as are taken.
-use Rattle.std.proofs.Common.{◌≡◌, ℕ, ◌<◌, List, length, take, subst, ap, ◌∙◌, Option, option_map, Result, IfOk, IfSome, None, Some, Ok, vec_items}
-use Rattle.std.specs.Io.BufRead.{first_piece, DropsThrough}
+use Rattle.std.proofs.Common.{◌≡◌, ℕ, List, [], ◌++◌, take, refl, subst, ap, ◌∙◌, Option, option_map, IfSome, None, Some}
+use Rattle.std.specs.Io.BufRead.{first_piece, take_through, strip_last}
 use Rattle.probe.proofs.lines.next_line.Goals as goal
 
 -- what is said of the first n known bytes, said of all
-of_first : (known : Option (List ℕ)) (n byte : ℕ) (line : List ℕ) → n ≡ 65537 → byte ≡ 10
-    → IfSome (option_map (take n) known) (λ xs. (0 < length xs) × (line ≡ first_piece byte xs))
-    → IfSome known (λ xs. line ≡ first_piece 10 (take 65537 xs))
-of_first None n byte line n-is byte-is h = tt
-of_first (Some xs) n byte line n-is byte-is h =
-    subst (λ b. line ≡ first_piece b (take 65537 xs)) byte-is (subst (λ m. line ≡ first_piece byte (take m xs)) n-is h.1)
+cut : (known taken : Option (List ℕ)) (n byte : ℕ) (before line after : List ℕ) → taken ≡ option_map (take n) known → n ≡ 65537 → byte ≡ 10 → before ≡ []
+    → IfSome taken (λ xs. line ≡ before ++ take_through byte xs) → after ≡ strip_last 10 line → IfSome known (λ bytes. after ≡ first_piece 10 (take 65537 bytes))
+cut None taken n byte before line after taken-is n-is byte-is before-is h last = tt
+cut (Some xs) taken n byte before line after taken-is n-is byte-is before-is h last =
+    let piece = subst (λ o. IfSome o (λ ys. line ≡ before ++ take_through byte ys)) taken-is h in
+    let same : before ++ take_through byte (take n xs) ≡ take_through 10 (take 65537 xs) = rw (n-is, byte-is, before-is) refl in
+    last ∙ ap (strip_last 10) (piece ∙ same)
 
-of_piece : {X E : Type 0} (bytes : X → List ℕ) (known old new : Option (List ℕ)) (n byte : ℕ) (item : Result X E) (line : X)
-    → n ≡ 65537 → byte ≡ 10 → old ≡ option_map (take n) known → item ≡ Ok line
-    → IfOk item (λ x. IfSome old (λ xs. (0 < length xs) × (bytes x ≡ first_piece byte xs)) × DropsThrough old new byte)
-    → IfSome known (λ xs. bytes line ≡ first_piece 10 (take 65537 xs))
-of_piece bytes known old new n byte item line n-is byte-is old-is is h =
-    let piece = subst (λ r. IfOk r (λ x. IfSome old (λ xs. (0 < length xs) × (bytes x ≡ first_piece byte xs)) × DropsThrough old new byte)) is h in
-    of_first known n byte (bytes line) n-is byte-is
-    (subst (λ o. IfSome o (λ xs. (0 < length xs) × (bytes line ≡ first_piece byte xs))) old-is piece.0)
+pub returns-in_ok-skip_until-clause-cut : goal.returns-in_ok-skip_until-clause-cut
+returns-in_ok-skip_until-clause-cut g c = λ yes.
+    cut (g.R.Read.remaining c.args.from.now) _ c.take.result.limit 10 c.clear.new.self.items c.read_until.new.buf.items c.strip.new.line.items
+    (ap (λ r. option_map (take c.take.result.limit) (g.R.Read.remaining r.now)) c.take.ensures.inner)
+    c.take.ensures.limit refl c.clear.ensures.items c.in_ok-read_until.ensures.bytes c.strip.ensures.items
 
-pub returns-clause-cut : goal.returns-clause-cut
-returns-clause-cut g c =
-    let remaining = g.R.Read.remaining in
-    let limit = c.take.result.limit in
-    let old-is = c.split.ensures.bytes ∙ ap (λ r. option_map (take limit) (remaining r.now)) c.take.ensures.inner in
-    of_piece vec_items (remaining c.args.from.now) _ _ limit c.split.result.byte c.in-Some.line c.in_ok-line.line
-    c.take.ensures.limit c.split.ensures.byte old-is c.in_ok-line.was c.in-Some.ensures.steps.2
+pub returns-else-len-gt-LONGEST-clause-cut : goal.returns-else-len-gt-LONGEST-clause-cut
+returns-else-len-gt-LONGEST-clause-cut g c = λ yes.
+    cut (g.R.Read.remaining c.args.from.now) _ c.take.result.limit 10 c.clear.new.self.items c.read_until.new.buf.items c.strip.new.line.items
+    (ap (λ r. option_map (take c.take.result.limit) (g.R.Read.remaining r.now)) c.take.ensures.inner)
+    c.take.ensures.limit refl c.clear.ensures.items c.in_ok-read_until.ensures.bytes c.strip.ensures.items

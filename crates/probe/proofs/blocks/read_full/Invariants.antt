@@ -1,0 +1,9 @@
+-- What was read stays within the buffer, whose length stays.
+use Rattle.std.proofs.Common.{◌≤◌, length, ◌≡◌, ◌-◌}
+use Rattle.probe.proofs.blocks.read_full.Given as goal
+
+abbrev pub invariant-loop-n : goal.invariant-loop-n
+invariant-loop-n g l = (l.n ≤ length l.buf) × (length l.buf ≡ length l.initial.buf)
+
+abbrev pub decreases-loop-n : goal.decreases-loop-n
+decreases-loop-n g l = length l.initial.buf - l.n
