@@ -8,12 +8,12 @@ use native.Mathlib.Omega.{arith}
 use native.Mathlib.Nat.{pow-suc, div-lt_iff_lt-mul, le-div_iff_mul-le, mod-lt}
 use lib.Dec.{T, eqb, eqb→eq, ltb}
 use borrow.Author.Tests.{lt-ltb}
-use lib.ListN.{length, replicate}
+use lib.ListN.{length, length-set, replicate, set, take}
 use Rattle.std.specs.Str.{IsUtf8, IsAscii}
 use Rattle.std.specs.Fmt.{decimal, digits, digit_glyph, digits_onto, padded_integral, char_count}
 use Rattle.std.proofs.Math.Nat.{pow-le-pow_right, one-le-pow}
 use Rattle.std.proofs.lemmas.Fmt.{hex_byte, decimal_step, decimal_digit, IsAscii-decimal}
-use Rattle.std.proofs.lemmas.List.{replicate_more}
+use Rattle.std.proofs.lemmas.List.{replicate_more, take_more_set}
 use Rattle.std.proofs.lemmas.Str.{IsUtf8-nil, IsUtf8-from_ascii, IsUtf8-append}
 use Rattle.lists.proofs.Cases.{le_or_lt}
 use Rattle.io.specs.Digits.{last_digits, hex_digit_ascii, IsDigitCount}
@@ -91,6 +91,19 @@ hex_is width n k some room small h =
 
 pub byte_is : (byte : ℕ) → byte < 256 → hex_digits 2 byte ≡ digit_glyph false (byte / 16) ∷ digit_glyph false (byte % 16) ∷ []
 byte_is byte small = hex_byte false byte small
+
+-- three elements that are set one after the other stand after those before them
+pub three_set : (xs : List ℕ) (at a b c : ℕ) → at + 3 ≤ length xs → take (at + 3) (set (set (set xs at a) (at + 1) b) (at + 2) c) ≡ take at xs ++ a ∷ b ∷ c ∷ []
+three_set xs at a b c room =
+    let first = set xs at a in
+    let second = set first (at + 1) b in
+    let n₁ : length first ≡ length xs = length-set xs at a in
+    let n₂ : length second ≡ length xs = length-set first (at + 1) b ∙ n₁ in
+    let two : at + 2 ≡ at + 1 + 1 = omega arith in
+    let three : at + 3 ≡ at + 2 + 1 = omega arith in
+    ap (λ n. take n (set second (at + 2) c)) three ∙ take_more_set second (at + 2) c (omega (arith, n₂))
+    ∙ ap (λ ys. ys ++ c ∷ []) (ap (λ n. take n second) two ∙ take_more_set first (at + 1) b (omega (arith, n₁)) ∙ ap (λ ys. ys ++ b ∷ []) (take_more_set xs at a (omega arith)))
+    ∙ ap (λ ys. ys ++ c ∷ []) (append_assoc (take at xs) (a ∷ []) (b ∷ [])) ∙ append_assoc (take at xs) (a ∷ b ∷ []) (c ∷ [])
 
 -- as many decimal digits as the number has are what it is printed in
 ascii_is : (d : ℕ) → d < 10 → hex_digit_ascii d ≡ 48 + d

@@ -1,5 +1,5 @@
 // The text of answers.
-ghost use Rattle.std.specs.Prelude.{◌≡◌, ℕ, ◌<◌, ◌≤◌, ◌^◌, ◌++◌, ◌∷◌, [], List, OnOk, IsUtf8, MatchOption, false, string_bytes, codes, decimal};
+ghost use Rattle.std.specs.Prelude.{◌≡◌, ℕ, ◌<◌, ◌≤◌, ◌^◌, ◌++◌, ◌∷◌, ◌+◌, ◌*◌, [], List, length, take, OnOk, IsUtf8, MatchOption, false, string_bytes, codes, decimal};
 ghost use Rattle.std.specs.Int.{from_bool};
 ghost use Rattle.std.specs.Fmt.{digit_glyph};
 ghost use Rattle.probe_text.specs.Answers.{bytes_field, count as count_of, elements, hex_bytes, hex_digits, name as name_of, refused as refused_of};
@@ -67,9 +67,50 @@ fn put_element<T: Element>(bytes: &mut Vec<u8>, x: T) -> Result<(), AllocError>
     put_hex(bytes, x.bits(), T::DIGITS)
 }
 
+// How many elements of two digits stand in a row.
+const ROW: usize = 64;
+
+// A space and two digits at a place of a row.
+fn put_at(row: &mut [u8; 192], at: usize, byte: u8)
+    requires { at + 3 ≤ 192 }
+    ensures { take (at + 3) row.new ≡ take at row.old ++ 32 ∷ hex_digits 2 byte }
+{
+    row[at] = b' ';
+    row[at + 1] = glyph(byte / 16);
+    row[at + 2] = glyph(byte % 16);
+}
+
+fn fill_row<T: Element>(row: &mut [u8; 192], xs: &[T])
+    requires digits { T.DIGITS ≡ 2 }
+    requires fits { length xs.now ≤ 64 }
+    ensures { take (3 * length xs.now) row.new ≡ elements T.DIGITS T.bits_of xs.now }
+{
+    for (i, &x) in xs.iter().enumerate() {
+        put_at(row, 3 * i, x.bits() as u8);
+    }
+}
+
+// Elements of two digits, a row after the other: to push each byte by itself takes several times as long.
+fn put_rows<T: Element>(bytes: &mut Vec<u8>, xs: &[T]) -> Result<(), AllocError>
+    requires { T.DIGITS ≡ 2 }
+    ensures { OnOk result (bytes.new.items ≡ bytes.old.items ++ elements T.DIGITS T.bits_of xs.now) }
+{
+    if xs.is_empty() {
+        return Ok(());
+    }
+    let (part, rest) = xs.split_at(xs.len().min(ROW));
+    let mut row = [b' '; 192];
+    fill_row(&mut row, part);
+    bytes.extend_from_slice(&row[..3 * part.len()])?;
+    put_rows(bytes, rest)
+}
+
 fn put_elements<T: Element>(bytes: &mut Vec<u8>, xs: &[T]) -> Result<(), AllocError>
     ensures { OnOk result (bytes.new.items ≡ bytes.old.items ++ elements T.DIGITS T.bits_of xs.now) }
 {
+    if T::DIGITS == 2 {
+        return put_rows(bytes, xs);
+    }
     for &x in xs {
         put_element(bytes, x)?;
     }
