@@ -95,14 +95,15 @@ fn put_rows<T: Element>(bytes: &mut Vec<u8>, xs: &[T]) -> Result<(), AllocError>
     requires { T.DIGITS ≡ 2 }
     ensures { OnOk result (bytes.new.items ≡ bytes.old.items ++ elements T.DIGITS T.bits_of xs.now) }
 {
-    if xs.is_empty() {
-        return Ok(());
-    }
-    let (part, rest) = xs.split_at(xs.len().min(ROW));
     let mut row = [b' '; 192];
-    fill_row(&mut row, part);
-    bytes.extend_from_slice(&row[..3 * part.len()])?;
-    put_rows(bytes, rest)
+    let mut rest = xs;
+    while !rest.is_empty() {
+        let (part, others) = rest.split_at(rest.len().min(ROW));
+        fill_row(&mut row, part);
+        bytes.extend_from_slice(&row[..3 * part.len()])?;
+        rest = others;
+    }
+    Ok(())
 }
 
 fn put_elements<T: Element>(bytes: &mut Vec<u8>, xs: &[T]) -> Result<(), AllocError>
