@@ -8,12 +8,11 @@ pub(crate) fn answer_request(
     line: &[u8],
     answer: &mut Answer,
 ) -> Result<(), ProbeError> {
-    if LONGEST < line.len() {
+    // No request has another byte than ASCII has, and this takes half as long as the test of UTF-8.
+    if LONGEST < line.len() || !line.is_ascii() {
         return Err(ProbeError::Malformed);
     }
-    let Ok(line) = str::from_utf8(line) else {
-        return Err(ProbeError::Malformed);
-    };
+    let line = unsafe { str::from_utf8_unchecked(line) };
     let mut fields = Fields::new(alloc, line);
     let word = fields.text()?;
     if probe_requests::try_answer(word, &mut fields, answer)?

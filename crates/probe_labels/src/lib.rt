@@ -98,6 +98,8 @@ fn packet_at<const N: usize>(
     )
 }
 
+// Inlined, each line's answer would take the stack that this one needs.
+#[inline(never)]
 fn packet_noise(fields: &mut Fields, answer: &mut Answer) -> Result<(), ProbeError> {
     let mz = f64_of_bits(fields.number()?);
     let place = fields.number()?;

@@ -1,21 +1,20 @@
--- The digits that `io::hex` gives are what a number is printed in, and text.
+-- The digits of a number, as they are set from the last on or given by `io::decimal`, are what it is printed in, and text.
 use mathlib.Core.Path.{◌≡◌, refl, sym, ap, subst, ◌∙◌}
 use mathlib.Core.Bool.{Bool, true, false, cond, false≢true}
-use mathlib.Core.Logic.{⊎_elim}
 use mathlib.Core.List.{List, [], ◌∷◌, ◌++◌, append_assoc, append-nil}
-use Prim.Native.Nat.{ℕ, zero, suc, ◌+◌, ◌-◌, ◌/◌, ◌%◌, ◌^◌, ◌≤◌, ◌<◌, min, max}
+use Prim.Native.Nat.{ℕ, zero, suc, ◌+◌, ◌-◌, ◌/◌, ◌%◌, ◌^◌, ◌≤◌, ◌<◌}
 use native.Mathlib.Omega.{arith}
 use native.Mathlib.Nat.{pow-suc, div-lt_iff_lt-mul, le-div_iff_mul-le, mod-lt}
 use lib.Dec.{T, eqb, eqb→eq, ltb}
 use borrow.Author.Tests.{lt-ltb}
-use lib.ListN.{length, length-set, replicate, set, take}
+use lib.ListN.{length, replicate, set, take, drop, take-append-drop}
 use Rattle.std.specs.Str.{IsUtf8, IsAscii}
 use Rattle.std.specs.Fmt.{decimal, digits, digit_glyph, digits_onto, padded_integral, char_count}
-use Rattle.std.proofs.Math.Nat.{pow-le-pow_right, one-le-pow}
+use Rattle.std.proofs.Math.Nat.{one-le-pow}
 use Rattle.std.proofs.lemmas.Fmt.{hex_byte, decimal_step, decimal_digit, IsAscii-decimal}
-use Rattle.std.proofs.lemmas.List.{replicate_more, take_more_set}
+use lib.Seq.{take-set-lt}
+use Rattle.std.proofs.lemmas.List.{replicate_more, drop-set, length-take-le, take-take}
 use Rattle.std.proofs.lemmas.Str.{IsUtf8-nil, IsUtf8-from_ascii, IsUtf8-append}
-use Rattle.lists.proofs.Cases.{le_or_lt}
 use Rattle.io.specs.Digits.{last_digits, hex_digit_ascii, IsDigitCount}
 use Rattle.probe_text.specs.Answers.{hex_digits, hex_bytes, elements}
 
@@ -77,33 +76,37 @@ hex_digits_are width n some room small =
     ∙ ap (λ ds. replicate (width - length (digits_onto 64 16 false n [])) 48 ++ ds) (append-nil (digits_onto 64 16 false n []))
     ∙ ap (λ w. with_zeros w (digits_onto 64 16 false n [])) alone ∙ padded_onto width 64 n [] some room small ∙ append-nil (last_digits 16 width n)
 
--- what `io::hex` counts is the width
-count_is : (width n k : ℕ) → 0 < width → width ≤ 16 → n < 16 ^ width → IsDigitCount 16 (min (max width 1) 16) n k → k ≡ width
-count_is width n k some room small h =
-    let asked : min (max width 1) 16 ≡ width = omega arith in ⊎_elim
-    (λ (few : k ≤ width). omega (arith, h.0))
-    (λ (more : width < k). absurd (omega (arith, h.2 (omega arith), pow-le-pow_right {n = 16} (omega arith) {i = width} {j = k - 1} (omega arith))))
-    (le_or_lt k width)
-
-pub hex_is : (width n k : ℕ) → 0 < width → width ≤ 16 → n < 16 ^ width → IsDigitCount 16 (min (max width 1) 16) n k → last_digits 16 k n ≡ hex_digits width n
-hex_is width n k some room small h =
-    ap (λ j. last_digits 16 j n) (count_is width n k some room small h) ∙ sym (hex_digits_are width n some (omega arith) small)
-
 pub byte_is : (byte : ℕ) → byte < 256 → hex_digits 2 byte ≡ digit_glyph false (byte / 16) ∷ digit_glyph false (byte % 16) ∷ []
 byte_is byte small = hex_byte false byte small
 
--- three elements that are set one after the other stand after those before them
-pub three_set : (xs : List ℕ) (at a b c : ℕ) → at + 3 ≤ length xs → take (at + 3) (set (set (set xs at a) (at + 1) b) (at + 2) c) ≡ take at xs ++ a ∷ b ∷ c ∷ []
-three_set xs at a b c room =
-    let first = set xs at a in
-    let second = set first (at + 1) b in
-    let n₁ : length first ≡ length xs = length-set xs at a in
-    let n₂ : length second ≡ length xs = length-set first (at + 1) b ∙ n₁ in
-    let two : at + 2 ≡ at + 1 + 1 = omega arith in
-    let three : at + 3 ≡ at + 2 + 1 = omega arith in
-    ap (λ n. take n (set second (at + 2) c)) three ∙ take_more_set second (at + 2) c (omega (arith, n₂))
-    ∙ ap (λ ys. ys ++ c ∷ []) (ap (λ n. take n second) two ∙ take_more_set first (at + 1) b (omega (arith, n₁)) ∙ ap (λ ys. ys ++ b ∷ []) (take_more_set xs at a (omega arith)))
-    ∙ ap (λ ys. ys ++ c ∷ []) (append_assoc (take at xs) (a ∷ []) (b ∷ [])) ∙ append_assoc (take at xs) (a ∷ b ∷ []) (c ∷ [])
+-- the last digit that is not set yet, set before those that are
+pub digit_set : (row : List ℕ) (at left width rest digit : ℕ) → 0 < left → left ≤ width → at + width < length row → digit ≡ hex_digit_ascii (rest % 16)
+    → last_digits 16 (left - 1) (rest / 16) ++ drop (at + (left - 1) + 1) (take (at + width + 1) (set row (at + 1 + (left - 1)) digit))
+    ≡ last_digits 16 left rest ++ drop (at + left + 1) (take (at + width + 1) row)
+digit_set row at zero width rest digit some least room is = absurd (omega arith)
+digit_set row at (suc k) width rest digit some least room is =
+    let front = last_digits 16 k (rest / 16) in
+    let all = take (at + width + 1) row in
+    let before : suc k - 1 ≡ k = omega arith in
+    let same : at + 1 + k ≡ at + k + 1 = omega arith in
+    let next : at + k + 1 + 1 ≡ at + suc k + 1 = omega arith in
+    let long : length all ≡ at + width + 1 = length-take-le (at + width + 1) row (omega arith) in
+    ap (λ j. last_digits 16 j (rest / 16) ++ drop (at + j + 1) (take (at + width + 1) (set row (at + 1 + j) digit))) before
+    ∙ ap (λ j. front ++ drop (at + k + 1) (take (at + width + 1) (set row j digit))) same
+    ∙ ap (λ xs. front ++ drop (at + k + 1) xs) (take-set-lt (at + width + 1) row (at + k + 1) digit (omega arith))
+    ∙ ap (λ xs. front ++ xs) (drop-set all (at + k + 1) digit (omega (arith, long)) ∙ ap (λ j. digit ∷ drop j all) next)
+    ∙ ap (λ d. front ++ d ∷ drop (at + suc k + 1) all) is ∙ sym (append_assoc front (hex_digit_ascii (rest % 16) ∷ []) (drop (at + suc k + 1) all))
+
+-- where none is left to set, all stand after the space
+pub digits_set : (row before : List ℕ) (at left width rest n : ℕ) → 0 < width → width ≤ 16 → n < 16 ^ width → left ≡ 0 → take (at + 1) row ≡ before ++ 32 ∷ []
+    → last_digits 16 left rest ++ drop (at + left + 1) (take (at + width + 1) row) ≡ last_digits 16 width n → take (at + width + 1) row ≡ before ++ 32 ∷ hex_digits width n
+digits_set row before at (suc left) width rest n some most fits none front digits = absurd (omega arith)
+digits_set row before at zero width rest n some most fits none front digits =
+    let shorter : take (at + 1) (take (at + width + 1) row) ≡ take (at + 1) row = take-take (at + 1) (at + width + 1) row (omega arith) in
+    let same : at + 0 + 1 ≡ at + 1 = omega arith in
+    let behind = ap (λ j. drop j (take (at + width + 1) row)) (sym same) ∙ digits ∙ sym (hex_digits_are width n some (omega arith) fits) in
+    sym (take-append-drop (at + 1) (take (at + width + 1) row)) ∙ ap (λ xs. xs ++ drop (at + 1) (take (at + width + 1) row)) (shorter ∙ front)
+    ∙ ap (λ xs. (before ++ 32 ∷ []) ++ xs) behind ∙ append_assoc before (32 ∷ []) (hex_digits width n)
 
 -- as many decimal digits as the number has are what it is printed in
 ascii_is : (d : ℕ) → d < 10 → hex_digit_ascii d ≡ 48 + d

@@ -32,26 +32,13 @@ fn put_byte(bytes: &mut Vec<u8>, byte: u8) -> Result<(), AllocError>
     Ok(())
 }
 
-// A number that has no more digits than these.
-fn put_hex(bytes: &mut Vec<u8>, n: u64, width: usize) -> Result<(), AllocError>
-    requires digits { (0 < width) × (width ≤ 16) }
-    requires fits { n < 16 ^ width }
-    ensures { OnOk result (bytes.new.items ≡ bytes.old.items ++ hex_digits width n) }
-{
-    if width == 2 {
-        return put_byte(bytes, n as u8);
-    }
-    let mut digits = [0u8; 16];
-    let count = io::hex(n, width, &mut digits);
-    for &digit in &digits[..count] {
-        bytes.push(digit)?;
-    }
-    Ok(())
-}
-
 fn put_decimal(bytes: &mut Vec<u8>, n: u64) -> Result<(), AllocError>
     ensures { OnOk result (bytes.new.items ≡ bytes.old.items ++ decimal n) }
 {
+    // Codes and flags are most of the numbers.
+    if n < 10 {
+        return Ok(bytes.push(b'0' + n as u8)?);
+    }
     let mut digits = [0u8; 20];
     let count = io::decimal(n, &mut digits);
     for &digit in &digits[..count] {
@@ -60,60 +47,53 @@ fn put_decimal(bytes: &mut Vec<u8>, n: u64) -> Result<(), AllocError>
     Ok(())
 }
 
+// How many bytes a row has: room for eight elements of the most digits.
+const ROW: usize = 136;
+
+// A space and the digits of a number at a place of a row, the last digit first.
+fn put_at(row: &mut [u8], at: usize, n: u64, width: usize)
+    requires room { at + width < length row.old }
+    requires digits { (0 < width) × (width ≤ 16) }
+    requires fits { n < 16 ^ width }
+    ensures len { length row.new ≡ length row.old }
+    ensures text { take (at + width + 1) row.new ≡ take at row.old ++ 32 ∷ hex_digits width n }
+{
+    row[at] = b' ';
+    let mut rest = n;
+    for left in (0..width).rev() {
+        row[at + 1 + left] = glyph((rest % 16) as u8);
+        rest /= 16;
+    }
+}
+
 fn put_element<T: Element>(bytes: &mut Vec<u8>, x: T) -> Result<(), AllocError>
     ensures { OnOk result (bytes.new.items ≡ bytes.old.items ++ 32 ∷ hex_digits T.DIGITS (T.bits_of x)) }
 {
-    bytes.push(b' ')?;
-    put_hex(bytes, x.bits(), T::DIGITS)
+    let mut row = [b' '; 17];
+    put_at(&mut row, 0, x.bits(), T::DIGITS);
+    Ok(bytes.extend_from_slice(&row[..=T::DIGITS])?)
 }
 
-// How many elements of two digits stand in a row.
-const ROW: usize = 64;
-
-// A space and two digits at a place of a row.
-fn put_at(row: &mut [u8; 192], at: usize, byte: u8)
-    requires { at + 3 ≤ 192 }
-    ensures { take (at + 3) row.new ≡ take at row.old ++ 32 ∷ hex_digits 2 byte }
-{
-    row[at] = b' ';
-    row[at + 1] = glyph(byte / 16);
-    row[at + 2] = glyph(byte % 16);
-}
-
-fn fill_row<T: Element>(row: &mut [u8; 192], xs: &[T])
-    requires digits { T.DIGITS ≡ 2 }
-    requires fits { length xs.now ≤ 64 }
-    ensures { take (3 * length xs.now) row.new ≡ elements T.DIGITS T.bits_of xs.now }
+fn fill_row<T: Element>(row: &mut [u8; ROW], xs: &[T])
+    requires { (T.DIGITS + 1) * length xs.now ≤ ROW }
+    ensures { take ((T.DIGITS + 1) * length xs.now) row.new ≡ elements T.DIGITS T.bits_of xs.now }
 {
     for (i, &x) in xs.iter().enumerate() {
-        put_at(row, 3 * i, x.bits() as u8);
+        put_at(row, (T::DIGITS + 1) * i, x.bits(), T::DIGITS);
     }
 }
 
-// Elements of two digits, a row after the other: to push each byte by itself takes several times as long.
-fn put_rows<T: Element>(bytes: &mut Vec<u8>, xs: &[T]) -> Result<(), AllocError>
-    requires { T.DIGITS ≡ 2 }
-    ensures { OnOk result (bytes.new.items ≡ bytes.old.items ++ elements T.DIGITS T.bits_of xs.now) }
-{
-    let mut row = [b' '; 192];
-    let mut rest = xs;
-    while !rest.is_empty() {
-        let (part, others) = rest.split_at(rest.len().min(ROW));
-        fill_row(&mut row, part);
-        bytes.extend_from_slice(&row[..3 * part.len()])?;
-        rest = others;
-    }
-    Ok(())
-}
-
+// A row after the other: to push each byte by itself takes several times as long.
 fn put_elements<T: Element>(bytes: &mut Vec<u8>, xs: &[T]) -> Result<(), AllocError>
     ensures { OnOk result (bytes.new.items ≡ bytes.old.items ++ elements T.DIGITS T.bits_of xs.now) }
 {
-    if T::DIGITS == 2 {
-        return put_rows(bytes, xs);
-    }
-    for &x in xs {
-        put_element(bytes, x)?;
+    let mut rest = xs;
+    while !rest.is_empty() {
+        let (part, others) = rest.split_at(rest.len().min(ROW / (T::DIGITS + 1)));
+        let mut row = [b' '; ROW];
+        fill_row(&mut row, part);
+        bytes.extend_from_slice(&row[..(T::DIGITS + 1) * part.len()])?;
+        rest = others;
     }
     Ok(())
 }

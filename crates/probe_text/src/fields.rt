@@ -3,13 +3,15 @@ ghost use Rattle.std.specs.Prelude.{◌≡◌, ◌≤◌, ◌↔◌, IsOk, IsSom
 ghost use Rattle.std.specs.Float.{binary64};
 ghost use Rattle.std.specs.Char.{is_ascii_digit, is_ascii_uppercase};
 ghost use Rattle.std.specs.Int.{from_bool};
-ghost use Rattle.std.specs.List.{list_all, list_any};
+ghost use Rattle.std.specs.List.{list_all, list_any, position_or_len};
 ghost use mir.Syntax.{w16, w64};
 ghost use Rattle.lists.specs.Written.{each};
+ghost use Rattle.probe_text.specs.Fields.{is_space};
 
 use crate::element::{Element, LONGEST};
 use crate::error::ProbeError;
 use crate::lent::lent;
+use memchr::memchr;
 use std::alloc::{AllocError, Global};
 use std::str::FromStr;
 
@@ -24,10 +26,44 @@ fn all_digits(text: &str) -> bool
     text.bytes().all(|byte| byte.is_ascii_digit())
 }
 
+// Not by `any`, which stops at the first: without that the loop takes many bytes at once.
 fn has_upper_case(text: &str) -> bool
     ensures { result ≡ list_any is_ascii_uppercase text.now }
 {
-    text.bytes().any(|byte| byte.is_ascii_uppercase())
+    let mut found = false;
+    for &byte in text.as_bytes() {
+        found |= byte.is_ascii_uppercase();
+    }
+    found
+}
+
+// How many bytes are looked at one by one: most fields are shorter, and a search by vectors has its cost.
+const NEAR: usize = 16;
+
+// A call, so that the loop before it stays small.
+#[inline(never)]
+fn far_space(text: &[u8]) -> usize
+    ensures value { result ≡ position_or_len is_space text.now }
+    ensures bound { result ≤ length text.now }
+{
+    memchr(b' ', text).unwrap_or(text.len())
+}
+
+// Where the first space stands, or the text's length.
+fn first_space(text: &[u8]) -> usize
+    ensures value { result ≡ position_or_len is_space text.now }
+    ensures bound { result ≤ length text.now }
+{
+    let near = text.len().min(NEAR);
+    for i in 0..near {
+        if text[i] == b' ' {
+            return i;
+        }
+    }
+    if near < NEAR {
+        return near;
+    }
+    NEAR + far_space(&text[NEAR..])
 }
 
 // The floats of these bits.
@@ -66,12 +102,13 @@ impl<'a> Fields<'a> {
         let Some(rest) = self.rest else {
             return Err(ProbeError::Malformed);
         };
-        let Some((field, others)) = rest.split_once(' ') else {
+        let end = first_space(rest.as_bytes());
+        if end == rest.len() {
             self.rest = None;
             return Ok(rest);
-        };
-        self.rest = Some(others);
-        Ok(field)
+        }
+        self.rest = Some(&rest[end + 1..]);
+        Ok(&rest[..end])
     }
 
     // A decimal number of 1 to 20 digits that the type holds.
